@@ -1,0 +1,90 @@
+ghost use mathlib.Core.Path.{_≡_};
+ghost use Rattle.std.specs.shelf.Text.{sameBytes};
+ghost use Rattle.fdt.specs.Items.{items};
+ghost use Rattle.fdt.specs.Properties.{first-property, property-seen, sought};
+use super::blob::Blob;
+use super::fault::TokenFault;
+use super::part::Part;
+use super::part::Place;
+use super::token::Token;
+
+// Where a walk stands: the place of the next token, and how many nodes are open there.
+#[derive(Clone, Copy)]
+pub struct Cursor {
+    pub place: Place,
+    pub depth: usize,
+}
+
+// A property: the place of its token, its name and value, and the place of the next token.
+#[derive(Clone, Copy)]
+pub struct Property<'a> {
+    pub place: Place,
+    pub name: Part<'a>,
+    pub value: Part<'a>,
+    pub next: Place,
+}
+
+// Lends the cursor, and brings it back to where it was saved when it is dropped.
+struct Rewind<'c> {
+    cursor: &'c mut Cursor,
+    saved: Cursor,
+}
+
+impl Drop for Rewind<'_> {
+    fn drop(self)
+        ensures { λ _. ⌜ now (self .exit .0) ≡ self .entry .saved ⌝ }
+    {
+        *self.cursor = self.saved;
+        let Rewind { cursor: _, saved: _ } = self;
+    }
+}
+
+// Whether two names are the same.
+fn same(a: &[u8], b: &[u8]) -> bool
+    ensures { λ r. ⌜ r ≡ sameBytes (now (a .entry)) (now (b .entry)) ⌝ }
+{
+    a == b
+}
+
+impl<'a> Blob<'a> {
+    // The first property from a place on, before the next node, close or end; 5 where a token cannot be read.
+    pub fn property_from(&self, place: Place) -> Result<Option<Property<'a>>, TokenFault>
+        ensures { λ r. ⌜ property-seen r ≡ first-property (items (now (self .entry) .bytes .now) (now (self .entry) .header) (place .0)) ⌝ }
+    {
+        let mut at = place;
+        loop {
+            let step = self.token_at(at)?;
+            match step.token {
+                Token::Property(name, value) => {
+                    return Ok(Some(Property { place: at, name, value, next: step.next }));
+                }
+                Token::Nothing => at = step.next,
+                Token::Open(_) | Token::Close | Token::End => return Ok(None),
+            }
+        }
+    }
+
+    // The first property of this name, of the node that the cursor stands in, from the cursor on; 5 where a token
+    // cannot be read. Found, absent or refused, the cursor is as it was.
+    pub fn look_ahead(&self, cursor: &mut Cursor, name: &[u8]) -> Result<Option<Property<'a>>, TokenFault>
+        ensures back { λ r. ⌜ now (cursor .exit) ≡ now (cursor .entry) ⌝ }
+        ensures finds { λ r. ⌜ property-seen r ≡ sought (now (name .entry)) (items (now (self .entry) .bytes .now) (now (self .entry) .header) (now (cursor .entry) .place .0)) ⌝ }
+    {
+        let saved = *cursor;
+        let guard = Rewind { cursor, saved };
+        loop {
+            let at = guard.cursor.place;
+            let step = self.token_at(at)?;
+            guard.cursor.place = step.next;
+            match step.token {
+                Token::Property(found, value) => {
+                    if same(found.bytes, name) {
+                        return Ok(Some(Property { place: at, name: found, value, next: step.next }));
+                    }
+                }
+                Token::Nothing => {}
+                Token::Open(_) | Token::Close | Token::End => return Ok(None),
+            }
+        }
+    }
+}
