@@ -1,3 +1,4 @@
+pub mod Nodes
 pub mod Reports
 pub mod Rules
 pub mod Trees

@@ -2,4 +2,6 @@
 //! `Tree` is made by opening only; its calls find nodes by place, their parents, properties and phandles. Each call
 //! equals a definition in specs/; opening is held to a relation too, specs/Trees.antt and specs/Phandles.antt.
 pub mod fault;
+pub mod node;
 pub mod rules;
+pub mod tree;

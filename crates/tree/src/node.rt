@@ -1,0 +1,11 @@
+use fdt::cursor::Cursor;
+use fdt::part::Part;
+use fdt::part::Place;
+
+// A node: the place of its open token, its name, and the cursor past that token, whose depth is the node's.
+#[derive(Clone, Copy)]
+pub struct Node<'a> {
+    pub place: Place,
+    pub name: Part<'a>,
+    pub body: Cursor,
+}
