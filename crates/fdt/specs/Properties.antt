@@ -23,9 +23,12 @@ pub record Owned : Type 0 where
 abbrev pub owned : Property → Owned
 owned p = record { place = p .place .0; name = piece (p .name); value = piece (p .value); next = p .next .0 }
 
+abbrev pub option-seen : Option Property → Option Owned
+option-seen None = None
+option-seen (Some p) = Some (owned p)
+
 abbrev pub property-seen : Result (Option Property) TokenFault → Result (Option Owned) TokenFault
-property-seen (Ok None) = Ok None
-property-seen (Ok (Some p)) = Ok (Some (owned p))
+property-seen (Ok o) = Ok (option-seen o)
 property-seen (Err f) = Err f
 
 -- the first property of the tokens, which come up to the next node, the close or the end

@@ -1,8 +1,9 @@
 ghost use mathlib.Core.Path.{_≡_};
+ghost use mathlib.Core.List.{List};
 ghost use Prim.Native.Nat.{ℕ, _+_, _<_, _≤_, _^_};
 ghost use lib.ListN.{length};
 ghost use Rattle.std.specs.Vec.{made};
-ghost use Rattle.fdt.specs.Blobs.{blob-of, blob-seen};
+ghost use Rattle.fdt.specs.Blobs.{Same-front, blob-of, blob-seen};
 ghost use Rattle.fdt.specs.Items.{items, more};
 ghost use Rattle.fdt.specs.Stands.{Token-stands};
 ghost use Rattle.fdt.specs.Tokens.{align, ending, open-at, property-at, token-at, step-seen};
@@ -24,8 +25,15 @@ pub struct Blob<'a> {
 }
 
 impl<'a> Blob<'a> {
-    // The blob at the front of the bytes, or the first fault of its header, 1 to 4.
+    // The blob at the front of the bytes, or the first fault of its header, 1 to 4. No byte past the total size is read.
     pub fn new(bytes: &'a [u8]) -> Result<Blob<'a>, HeaderFault>
+        ensures is { λ r. ⌜ blob-seen r ≡ blob-of (now (bytes .entry)) ⌝ }
+        ensures unread { λ r. ⌜ ((c : List ℕ) → Same-front (now (bytes .entry)) c → blob-seen r ≡ blob-of c) ⌝ }
+    {
+        Blob::cut(bytes)
+    }
+
+    fn cut(bytes: &'a [u8]) -> Result<Blob<'a>, HeaderFault>
         ensures { λ r. ⌜ blob-seen r ≡ blob-of (now (bytes .entry)) ⌝ }
     {
         let header = Header::read(bytes)?;

@@ -1,1 +1,5 @@
+pub mod Handles
+pub mod Opening
+pub mod Readable
 pub mod Trees
+pub mod Using

@@ -24,27 +24,27 @@ pub no-result : {P X F : Type 0} {f : F} {x : X} → _≡_ {A = Result X F} (Err
 no-result p = absurd (let z : _≡_ {A = ℕ} 0 1 = cc in omega arith)
 
 -- Where a walk can stand: in a node one deeper than the number, and whether properties may still come.
-data Standing : Type 0 where
+pub data Standing : Type 0 where
   start : Standing
   inside : Bool → ℕ → Standing
   done : Standing
 
-abbrev depth-of : Standing → ℕ
+abbrev pub depth-of : Standing → ℕ
 depth-of start = 0
 depth-of (inside b d) = suc d
 depth-of done = 0
 
-abbrev stage-of : Standing → Stage
+abbrev pub stage-of : Standing → Stage
 stage-of start = Start
 stage-of (inside true d) = Owning
 stage-of (inside false d) = Subnodes
 stage-of done = Finished
 
-abbrev stand : ℕ → Standing → Walk
+abbrev pub stand : ℕ → Standing → Walk
 stand p s = walk p (depth-of s) (stage-of s)
 
 -- past the close
-abbrev up : ℕ → Standing
+abbrev pub up : ℕ → Standing
 up zero = done
 up (suc d) = inside false d
 
@@ -60,7 +60,7 @@ module _ (end : ℕ) where
   open-root : (p : ℕ) (name : Piece) (n : ℕ) → name .bytes ≡ [] → admitted end (stand p start) (opens name) n ≡ Ok (stand n (inside true 0))
   open-root p name n e = rw (eq-eqb (length (name .bytes)) 0 (ap length e))
 
-  close-in : (p : ℕ) (b : Bool) (d n : ℕ) → admitted end (stand p (inside b d)) closes n ≡ Ok (stand n (up d))
+  pub close-in : (p : ℕ) (b : Bool) (d n : ℕ) → admitted end (stand p (inside b d)) closes n ≡ Ok (stand n (up d))
   close-in p b zero n = refl
   close-in p b (suc d) n =
       let a : suc (suc d) - 1 ≡ suc d = omega arith in

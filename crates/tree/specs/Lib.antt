@@ -1,4 +1,6 @@
 pub mod Nodes
+pub mod Opening
+pub mod Phandles
 pub mod Reports
 pub mod Rules
 pub mod Trees

@@ -1,15 +1,17 @@
 ghost use mathlib.Core.Path.{_≡_};
-ghost use Rattle.std.specs.declared.option.Option.the-variants.{None};
-ghost use Rattle.fdt.specs.Items.{items};
-ghost use Rattle.fdt.specs.Properties.{property-seen, first-property, sought};
-ghost use Rattle.tree.specs.Nodes.{Goes-on, all-nodes, first-node, listed-by, node-at, node-seen, nodes-from, parent-of};
+ghost use mathlib.Core.List.{List};
+ghost use Prim.Native.Nat.{ℕ};
+ghost use Rattle.fdt.specs.Blobs.{Same-front};
+ghost use Rattle.tree.specs.Opening.{Opens, open-of, tree-seen, walked-of, walked-seen};
 use fdt::blob::Blob;
-use fdt::cursor::Cursor;
-use fdt::cursor::Property;
 use fdt::fault::TokenFault;
-use fdt::part::Place;
-use fdt::token::Token;
-use super::node::Node;
+use fdt::fault::TokenFromHeader;
+use super::fault::RouteFault;
+use super::fault::RouteFromToken;
+use super::rules::walk_tokens;
+
+pub mod nodes;
+pub mod phandles;
 
 // A blob that opening accepted. Only `open` makes one.
 #[derive(Clone, Copy)]
@@ -18,91 +20,30 @@ pub struct Tree<'a> {
 }
 
 impl<'a> Tree<'a> {
-    // Before the first token.
-    pub fn start(&self) -> Cursor
-        ensures { λ r. ⌜ (r .place .0 ≡ now (self .entry) .blob .header .structure) × (r .depth ≡ 0) ⌝ }
+    // Opens the blob at the front of the bytes: its header (1 to 4), then all tokens from the front (5 to 7), then the
+    // phandles in blob order (8 and 9). No byte past the total size is read.
+    pub fn open(bytes: &'a [u8]) -> Result<Tree<'a>, RouteFault>
+        ensures is { λ r. ⌜ tree-seen r ≡ open-of (now (bytes .entry)) ⌝ }
+        ensures exactly { λ r. ⌜ Opens (now (bytes .entry)) (tree-seen r) ⌝ }
+        ensures unread { λ r. ⌜ ((c : List ℕ) → Same-front (now (bytes .entry)) c → tree-seen r ≡ open-of c) ⌝ }
     {
-        Cursor { place: self.blob.start(), depth: 0 }
+        Tree::read(bytes)
     }
 
-    // The first node from a cursor on, in blob order, at any depth.
-    pub fn next_node(&self, cursor: Cursor) -> Result<Option<Node<'a>>, TokenFault>
-        ensures is { λ r. ⌜ node-seen (now (self .entry) .blob .bytes .now) (now (self .entry) .blob .header) r ≡ first-node (nodes-from (now (self .entry) .blob .bytes .now) (now (self .entry) .blob .header) (cursor .depth) (cursor .place .0)) ⌝ }
-        ensures rest { λ r. ⌜ nodes-from (now (self .entry) .blob .bytes .now) (now (self .entry) .blob .header) (cursor .depth) (cursor .place .0) ≡ listed-by (λ e. nodes-from (now (self .entry) .blob .bytes .now) (now (self .entry) .blob .header) (e .depth) (e .body)) (node-seen (now (self .entry) .blob .bytes .now) (now (self .entry) .blob .header) r) ⌝ }
-        ensures goes { λ r. ⌜ Goes-on (now (self .entry) .blob .header) (cursor .place .0) r ⌝ }
+    fn read(bytes: &'a [u8]) -> Result<Tree<'a>, RouteFault>
+        ensures { λ r. ⌜ tree-seen r ≡ open-of (now (bytes .entry)) ⌝ }
     {
-        let mut at = cursor;
-        loop {
-            let step = self.blob.token_at(at.place)?;
-            match step.token {
-                Token::Open(name) => {
-                    if at.depth >= 16 {
-                        return Err(TokenFault::Depth(at.place));
-                    }
-                    let body = Cursor { place: step.next, depth: at.depth + 1 };
-                    return Ok(Some(Node { place: at.place, name, body }));
-                }
-                Token::Close => {
-                    if at.depth == 0 {
-                        return Err(TokenFault::Rule(at.place));
-                    }
-                    at.depth -= 1;
-                }
-                Token::Property(_, _) | Token::Nothing => {}
-                Token::End => return Ok(None),
-            }
-            at.place = step.next;
-        }
+        let tree = Tree { blob: walked(bytes)? };
+        let _count = tree.phandles()?;
+        Ok(tree)
     }
+}
 
-    // The node whose open token stands at a place.
-    pub fn node_at(&self, place: Place) -> Result<Option<Node<'a>>, TokenFault>
-        ensures { λ r. ⌜ node-seen (now (self .entry) .blob .bytes .now) (now (self .entry) .blob .header) r ≡ node-at (place .0) (all-nodes (now (self .entry) .blob .bytes .now) (now (self .entry) .blob .header)) ⌝ }
-    {
-        let mut at = self.start();
-        loop {
-            let Some(node) = self.next_node(at)? else {
-                return Ok(None);
-            };
-            if node.place.0 == place.0 {
-                return Ok(Some(node));
-            }
-            at = node.body;
-        }
-    }
-
-    // The node that a node is a subnode of; none for the root.
-    pub fn parent(&self, node: &Node<'a>) -> Result<Option<Node<'a>>, TokenFault>
-        ensures { λ r. ⌜ node-seen (now (self .entry) .blob .bytes .now) (now (self .entry) .blob .header) r ≡ parent-of (now (node .entry) .place .0) (now (node .entry) .body .depth) (all-nodes (now (self .entry) .blob .bytes .now) (now (self .entry) .blob .header)) ⌝ }
-    {
-        let mut above = None;
-        let mut at = self.start();
-        loop {
-            let Some(next) = self.next_node(at)? else {
-                return Ok(None);
-            };
-            if next.place.0 == node.place.0 {
-                return Ok(above);
-            }
-            if next.body.depth < node.body.depth && node.body.depth - next.body.depth == 1 {
-                above = Some(next);
-            }
-            at = next.body;
-        }
-    }
-
-    // The first property from a place on, of the node that the place is in.
-    pub fn property_from(&self, place: Place) -> Result<Option<Property<'a>>, TokenFault>
-        ensures { λ r. ⌜ property-seen r ≡ first-property (items (now (self .entry) .blob .bytes .now) (now (self .entry) .blob .header) (place .0)) ⌝ }
-    {
-        self.blob.property_from(place)
-    }
-
-    // The first property of this name of a node.
-    pub fn property(&self, node: &Node<'a>, name: &[u8]) -> Result<Option<Property<'a>>, TokenFault>
-        ensures { λ r. ⌜ property-seen r ≡ sought (now (name .entry)) (items (now (self .entry) .blob .bytes .now) (now (self .entry) .blob .header) (now (node .entry) .body .place .0)) ⌝ }
-    {
-        let mut cursor = node.body;
-        self.blob.look_ahead(&mut cursor, name)
-    }
+// A blob with a good header, whose tokens form one tree.
+fn walked<'a>(bytes: &'a [u8]) -> Result<Blob<'a>, TokenFault>
+    ensures { λ r. ⌜ walked-seen r ≡ walked-of (now (bytes .entry)) ⌝ }
+{
+    let blob = Blob::new(bytes)?;
+    let _last = walk_tokens(&blob)?;
+    Ok(blob)
 }

@@ -1,0 +1,14 @@
+use mathlib.Core.Path.{_≡_}
+use Prim.Native.Nat.{_-_}
+use Rattle.fdt.specs.Tokens.{ending}
+use Rattle.tree.specs.Nodes.{nodes-from, all-nodes}
+use Rattle.tree.specs.Phandles.{with-phandle}
+use Rattle.tree.proofs.tree.Tree.node_of_phandle.Given as given
+
+abbrev pub Inv-loop-node : given.InvT-loop-node
+Inv-loop-node l =
+    with-phandle (l .phandle) (nodes-from (l .self .blob .bytes .now) (l .self .blob .header) (l .at .depth) (l .at .place .0))
+      ≡ with-phandle (l .phandle) (all-nodes (l .self .blob .bytes .now) (l .self .blob .header))
+
+abbrev pub μ-loop-node : given.MeasureT-loop-node
+μ-loop-node l = ending (l .self .blob .header) - l .at .place .0

@@ -1,0 +1,63 @@
+-- What opening answers.
+use mathlib.Core.Path.{_≡_}
+use mathlib.Core.List.{List}
+use Prim.Native.Nat.{ℕ}
+use lib.ListN.{take}
+use Rattle.std.specs.declared.result.Result.{Result}
+use Rattle.std.specs.declared.result.Result.the-variants.{Ok, Err}
+use Rattle.search.specs.Exactly.{Exactly}
+use Rattle.fdt.specs.declared.blob.Blob.{Blob}
+use Rattle.fdt.specs.declared.header.Header.{Header}
+use Rattle.fdt.specs.declared.fault.HeaderFault.{HeaderFault}
+use Rattle.fdt.specs.declared.fault.TokenFault.{TokenFault}
+use Rattle.fdt.specs.declared.fault.TokenFault.the-variants as fault
+use Rattle.fdt.specs.Blobs.{Source, source, blob-of}
+use Rattle.fdt.specs.Headers.{header-of}
+use Rattle.fdt.specs.Items.{all-items}
+use Rattle.fdt.specs.Tokens.{after, ending}
+use Rattle.tree.specs.declared.fault.RouteFault.{RouteFault}
+use Rattle.tree.specs.declared.rules.Walk.{Walk}
+use Rattle.tree.specs.declared.tree.Tree.{Tree}
+use Rattle.tree.specs.Nodes.{all-nodes}
+use Rattle.tree.specs.Phandles.{held, phandles, Good-phandles}
+use Rattle.tree.specs.Rules.{checked, beginning}
+use Rattle.tree.specs.Trees.{OneTree}
+
+abbrev pub blob-source : Blob → Source
+blob-source b = source (b .bytes .now) (b .header)
+
+abbrev pub walked-seen : Result Blob TokenFault → Result Source TokenFault
+walked-seen (Ok b) = Ok (blob-source b)
+walked-seen (Err f) = Err f
+
+abbrev pub tree-seen : Result Tree RouteFault → Result Source RouteFault
+tree-seen (Ok t) = Ok (blob-source (t .blob))
+tree-seen (Err f) = Err f
+
+-- a header's fault, held whole
+abbrev pub header-held : {X : Type 0} → Result X HeaderFault → Result X TokenFault
+header-held (Ok x) = Ok x
+header-held (Err f) = Err (fault.Header f)
+
+-- the walk over all tokens
+abbrev pub walked : Source → Result Walk TokenFault
+walked s = checked (ending (s .header)) (Ok (beginning (s .header))) (all-items (s .bytes) (s .header))
+
+-- a good header, then good tokens
+abbrev pub walked-of : List ℕ → Result Source TokenFault
+walked-of b = after (header-held (blob-of b)) (λ s. after (walked s) (λ w. Ok s))
+
+-- then good phandles
+abbrev pub open-of : List ℕ → Result Source RouteFault
+open-of b = after (held (walked-of b)) (λ s. after (phandles (all-nodes (s .bytes) (s .header))) (λ n. Ok s))
+
+-- The blob s at the front of b: its header is good, its tokens are one tree, and its phandles are good.
+pub record Opened (b : List ℕ) (s : Source) : Type 0 where
+  pub header : header-of b ≡ Ok (s .header)
+  pub bytes : s .bytes ≡ take (s .header .total) b
+  pub tree : OneTree (ending (s .header)) (all-items (s .bytes) (s .header))
+  pub phandles : Good-phandles (all-nodes (s .bytes) (s .header))
+
+-- Opening accepts exactly such blobs.
+abbrev pub Opens : List ℕ → Result Source RouteFault → Type 0
+Opens b r = (s : Source) → Exactly (r ≡ Ok s) (Opened b s)

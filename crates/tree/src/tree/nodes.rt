@@ -1,0 +1,101 @@
+ghost use mathlib.Core.Path.{_≡_};
+ghost use Rattle.fdt.specs.Items.{items};
+ghost use Rattle.fdt.specs.Properties.{property-seen, first-property, sought};
+ghost use Rattle.tree.specs.Nodes.{Goes-on, all-nodes, first-node, listed-by, node-at, node-seen, nodes-from, parent-of};
+use fdt::cursor::Cursor;
+use fdt::cursor::Property;
+use fdt::fault::TokenFault;
+use fdt::part::Place;
+use fdt::token::Token;
+use crate::node::Node;
+use super::Tree;
+
+impl<'a> Tree<'a> {
+    // Before the first token.
+    pub fn start(&self) -> Cursor
+        ensures { λ r. ⌜ (r .place .0 ≡ now (self .entry) .blob .header .structure) × (r .depth ≡ 0) ⌝ }
+    {
+        Cursor { place: self.blob.start(), depth: 0 }
+    }
+
+    // The first node from a cursor on, in blob order, at any depth.
+    pub fn next_node(&self, cursor: Cursor) -> Result<Option<Node<'a>>, TokenFault>
+        ensures is { λ r. ⌜ node-seen (now (self .entry) .blob .bytes .now) (now (self .entry) .blob .header) r ≡ first-node (nodes-from (now (self .entry) .blob .bytes .now) (now (self .entry) .blob .header) (cursor .depth) (cursor .place .0)) ⌝ }
+        ensures rest { λ r. ⌜ nodes-from (now (self .entry) .blob .bytes .now) (now (self .entry) .blob .header) (cursor .depth) (cursor .place .0) ≡ listed-by (λ e. nodes-from (now (self .entry) .blob .bytes .now) (now (self .entry) .blob .header) (e .depth) (e .body)) (node-seen (now (self .entry) .blob .bytes .now) (now (self .entry) .blob .header) r) ⌝ }
+        ensures goes { λ r. ⌜ Goes-on (now (self .entry) .blob .header) (cursor .place .0) r ⌝ }
+    {
+        let mut at = cursor;
+        loop {
+            let step = self.blob.token_at(at.place)?;
+            match step.token {
+                Token::Open(name) => {
+                    if at.depth >= 16 {
+                        return Err(TokenFault::Depth(at.place));
+                    }
+                    let body = Cursor { place: step.next, depth: at.depth + 1 };
+                    return Ok(Some(Node { place: at.place, name, body }));
+                }
+                Token::Close => {
+                    if at.depth == 0 {
+                        return Err(TokenFault::Rule(at.place));
+                    }
+                    at.depth -= 1;
+                }
+                Token::Property(_, _) | Token::Nothing => {}
+                Token::End => return Ok(None),
+            }
+            at.place = step.next;
+        }
+    }
+
+    // The node whose open token stands at a place.
+    pub fn node_at(&self, place: Place) -> Result<Option<Node<'a>>, TokenFault>
+        ensures { λ r. ⌜ node-seen (now (self .entry) .blob .bytes .now) (now (self .entry) .blob .header) r ≡ node-at (place .0) (all-nodes (now (self .entry) .blob .bytes .now) (now (self .entry) .blob .header)) ⌝ }
+    {
+        let mut at = self.start();
+        loop {
+            let Some(node) = self.next_node(at)? else {
+                return Ok(None);
+            };
+            if node.place.0 == place.0 {
+                return Ok(Some(node));
+            }
+            at = node.body;
+        }
+    }
+
+    // The node that a node is a subnode of; none for the root.
+    pub fn parent(&self, node: &Node<'a>) -> Result<Option<Node<'a>>, TokenFault>
+        ensures { λ r. ⌜ node-seen (now (self .entry) .blob .bytes .now) (now (self .entry) .blob .header) r ≡ parent-of (now (node .entry) .place .0) (now (node .entry) .body .depth) (all-nodes (now (self .entry) .blob .bytes .now) (now (self .entry) .blob .header)) ⌝ }
+    {
+        let mut above = None;
+        let mut at = self.start();
+        loop {
+            let Some(next) = self.next_node(at)? else {
+                return Ok(None);
+            };
+            if next.place.0 == node.place.0 {
+                return Ok(above);
+            }
+            if next.body.depth < node.body.depth && node.body.depth - next.body.depth == 1 {
+                above = Some(next);
+            }
+            at = next.body;
+        }
+    }
+
+    // The first property from a place on, of the node that the place is in.
+    pub fn property_from(&self, place: Place) -> Result<Option<Property<'a>>, TokenFault>
+        ensures { λ r. ⌜ property-seen r ≡ first-property (items (now (self .entry) .blob .bytes .now) (now (self .entry) .blob .header) (place .0)) ⌝ }
+    {
+        self.blob.property_from(place)
+    }
+
+    // The first property of this name of a node.
+    pub fn property(&self, node: &Node<'a>, name: &[u8]) -> Result<Option<Property<'a>>, TokenFault>
+        ensures { λ r. ⌜ property-seen r ≡ sought (now (name .entry)) (items (now (self .entry) .blob .bytes .now) (now (self .entry) .blob .header) (now (node .entry) .body .place .0)) ⌝ }
+    {
+        let mut cursor = node.body;
+        self.blob.look_ahead(&mut cursor, name)
+    }
+}
