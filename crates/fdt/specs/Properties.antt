@@ -1,16 +1,17 @@
 -- The properties of a node.
 use mathlib.Core.List.{List, [], _∷_}
 use mathlib.Core.Bool.{cond}
-use Prim.Native.Nat.{ℕ}
+use Prim.Native.Nat.{ℕ, _+_, _≤_}
 use Rattle.std.specs.declared.option.Option.{Option}
 use Rattle.std.specs.declared.option.Option.the-variants.{Some, None}
 use Rattle.std.specs.declared.result.Result.{Result}
 use Rattle.std.specs.declared.result.Result.the-variants.{Ok, Err}
 use Rattle.std.specs.shelf.Text.{sameBytes}
 use Rattle.fdt.specs.declared.cursor.Property.{Property}
+use Rattle.fdt.specs.declared.header.Header.{Header}
 use Rattle.fdt.specs.declared.fault.TokenFault.{TokenFault}
 use Rattle.fdt.specs.Cells.{Piece, piece}
-use Rattle.fdt.specs.Tokens.{Word, opens, property, closes, nothing, ends}
+use Rattle.fdt.specs.Tokens.{Word, opens, property, closes, nothing, ends, ending}
 use Rattle.fdt.specs.Items.{Item, item, bad}
 
 -- a property: the place of its token, its name and its value, and the place of the next token
@@ -30,6 +31,12 @@ option-seen (Some p) = Some (owned p)
 abbrev pub property-seen : Result (Option Property) TokenFault → Result (Option Owned) TokenFault
 property-seen (Ok o) = Ok (option-seen o)
 property-seen (Err f) = Err f
+
+-- a property that was read from the place i on lies in the structure block, and the next token past i
+abbrev pub Property-goes : Header → ℕ → Result (Option Property) TokenFault → Type 0
+Property-goes h i (Ok None) = Unit {0}
+Property-goes h i (Ok (Some p)) = (i + 4 ≤ p .next .0) × (i + 4 ≤ ending h)
+Property-goes h i (Err f) = Unit {0}
 
 -- the first property of the tokens, which come up to the next node, the close or the end
 abbrev pub first-property : List Item → Result (Option Owned) TokenFault

@@ -1,7 +1,7 @@
 ghost use mathlib.Core.Path.{_≡_};
 ghost use Rattle.std.specs.shelf.Text.{sameBytes};
 ghost use Rattle.fdt.specs.Items.{items};
-ghost use Rattle.fdt.specs.Properties.{first-property, property-seen, sought};
+ghost use Rattle.fdt.specs.Properties.{Property-goes, first-property, property-seen, sought};
 use super::blob::Blob;
 use super::fault::TokenFault;
 use super::part::Part;
@@ -49,7 +49,8 @@ fn same(a: &[u8], b: &[u8]) -> bool
 impl<'a> Blob<'a> {
     // The first property from a place on, before the next node, close or end; 5 where a token cannot be read.
     pub fn property_from(&self, place: Place) -> Result<Option<Property<'a>>, TokenFault>
-        ensures { λ r. ⌜ property-seen r ≡ first-property (items (now (self .entry) .bytes .now) (now (self .entry) .header) (place .0)) ⌝ }
+        ensures is { λ r. ⌜ property-seen r ≡ first-property (items (now (self .entry) .bytes .now) (now (self .entry) .header) (place .0)) ⌝ }
+        ensures goes { λ r. ⌜ Property-goes (now (self .entry) .header) (place .0) r ⌝ }
     {
         let mut at = place;
         loop {

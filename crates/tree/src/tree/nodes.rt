@@ -1,6 +1,6 @@
 ghost use mathlib.Core.Path.{_≡_};
 ghost use Rattle.fdt.specs.Items.{items};
-ghost use Rattle.fdt.specs.Properties.{property-seen, first-property, sought};
+ghost use Rattle.fdt.specs.Properties.{Property-goes, property-seen, first-property, sought};
 ghost use Rattle.tree.specs.Nodes.{Goes-on, all-nodes, first-node, listed-by, node-at, node-seen, nodes-from, parent-of};
 use fdt::cursor::Cursor;
 use fdt::cursor::Property;
@@ -86,7 +86,8 @@ impl<'a> Tree<'a> {
 
     // The first property from a place on, of the node that the place is in.
     pub fn property_from(&self, place: Place) -> Result<Option<Property<'a>>, TokenFault>
-        ensures { λ r. ⌜ property-seen r ≡ first-property (items (now (self .entry) .blob .bytes .now) (now (self .entry) .blob .header) (place .0)) ⌝ }
+        ensures goes { λ r. ⌜ Property-goes (now (self .entry) .blob .header) (place .0) r ⌝ }
+        ensures is { λ r. ⌜ property-seen r ≡ first-property (items (now (self .entry) .blob .bytes .now) (now (self .entry) .blob .header) (place .0)) ⌝ }
     {
         self.blob.property_from(place)
     }

@@ -1,5 +1,5 @@
 use mathlib.Core.Path.{_≡_}
-use Prim.Native.Nat.{_-_}
+use Prim.Native.Nat.{_-_, _≤_}
 use Rattle.fdt.specs.Tokens.{ending}
 use Rattle.fdt.specs.Items.{items}
 use Rattle.fdt.specs.Properties.{first-property}
@@ -8,8 +8,9 @@ use Rattle.fdt.proofs.blob.Blob.property_from.Given as given
 -- the first property from here on is the first from the start
 abbrev pub Inv-loop-step : given.InvT-loop-step
 Inv-loop-step l =
-    first-property (items (l .self .bytes .now) (l .self .header) (l .at .0))
-      ≡ first-property (items (l .self .bytes .now) (l .self .header) (l .entry .at .0))
+    (l .entry .at .0 ≤ l .at .0)
+    × (first-property (items (l .self .bytes .now) (l .self .header) (l .at .0))
+      ≡ first-property (items (l .self .bytes .now) (l .self .header) (l .entry .at .0)))
 
 abbrev pub μ-loop-step : given.MeasureT-loop-step
 μ-loop-step l = ending (l .self .header) - l .at .0
