@@ -25,16 +25,16 @@ head total structure size strings other = record { total = total; structure = st
 made-of : Bool → Bool → ℕ → ℕ → ℕ → ℕ → ℕ → ℕ → ℕ → ℕ → List ℕ → Result Source HeaderFault
 made-of l t c0 c4 c8 c12 c20 c24 c32 c36 front =
     cond (l && (leb 40 c4 && (leb c4 65536 && t)))
-      (cond (eqb c0 0xd00dfeed)
-        (cond (leb 17 c20 && leb c24 17)
-          (cond (block-within c8 c36 c4 && (block-within c12 c32 c4 && (eqb (c8 % 4) 0 && eqb (c36 % 4) 0)))
-            (Ok (source front (head c4 c8 c36 c12 c32))) (Err Blocks)) (Err Version)) (Err Magic))
-      (Err Size)
+    (cond (eqb c0 0xd00dfeed)
+    (cond (leb 17 c20 && leb c24 17)
+    (cond (block-within c8 c36 c4 && (block-within c12 c32 c4 && (eqb (c8 % 4) 0 && eqb (c36 % 4) 0)))
+    (Ok (source front (head c4 c8 c36 c12 c32))) (Err Blocks)) (Err Version)) (Err Magic))
+    (Err Size)
 
 -- a header is cut off at the total size that it gives
 cut-at : (b : List ℕ) (s m v k : Bool)
     → blob-from b (cond s (cond m (cond v (cond k (Ok (header-cells b)) (Err Blocks)) (Err Version)) (Err Magic)) (Err Size))
-      ≡ cond s (cond m (cond v (cond k (Ok (source (take (cell b 4) b) (header-cells b))) (Err Blocks)) (Err Version)) (Err Magic)) (Err Size)
+    ≡ cond s (cond m (cond v (cond k (Ok (source (take (cell b 4) b) (header-cells b))) (Err Blocks)) (Err Version)) (Err Magic)) (Err Size)
 cut-at b false m v k = refl
 cut-at b true false v k = refl
 cut-at b true true false k = refl

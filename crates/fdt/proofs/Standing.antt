@@ -66,16 +66,16 @@ module _ (b : List ℕ) (a e : ℕ) (inside : e ≤ length b) (short : name-size
       record {
         stands = piece-stands b a n (omega arith);
         whole = λ k lt z.
-          let m : k < n = omega arith in
-          let g = leading-passes nonzero block 0 k m in
-          let v : getD block k 0 ≡ 0 = piece-at b a (e - a) (omega arith) k (omega arith) ∙ sym (piece-at b a n (omega arith) k m) ∙ z in
-          grind (arith, tells);
+            let m : k < n = omega arith in
+            let g = leading-passes nonzero block 0 k m in
+            let v : getD block k 0 ≡ 0 = piece-at b a (e - a) (omega arith) k (omega arith) ∙ sym (piece-at b a n (omega arith) k m) ∙ z in
+            grind (arith, tells);
         inside = omega arith;
         ended =
-          let g = leading-stops nonzero block 0 (omega arith) in
-          let v : getD block n 0 ≡ getD b (a + n) 0 = piece-at b a (e - a) (omega arith) n short in
-          let z : getD block n 0 ≡ 0 = grind (arith, tells) in
-          rw s (sym v ∙ z)
+            let g = leading-stops nonzero block 0 (omega arith) in
+            let v : getD block n 0 ≡ getD b (a + n) 0 = piece-at b a (e - a) (omega arith) n short in
+            let z : getD block n 0 ≡ 0 = grind (arith, tells) in
+            rw s (sym v ∙ z);
       }
 
 name-named : {F : Type 0} (b : List ℕ) (a e : ℕ) (past : F) (p : Piece) → name-or b a e past ≡ Ok p → Named b p
@@ -109,9 +109,10 @@ module _ (b : List ℕ) (h : Header) (i : ℕ) where
       after-by (cell-or b (i + 8) (ending h) (Past (at i))) _ (w, next) (λ offset eo.
       after-by (part-or b (i + 12) size (ending h) (Past (at i))) _ (w, next) (λ value ev.
       after-by (name-or b (h .strings + offset) (h .strings + h .«strings_size») (Past (at i))) _ (w, next) (λ name en.
-      plain (property name value) w (align (i + 12 + size)) next
-        (name-named b (h .strings + offset) (h .strings + h .«strings_size») (Past (at i)) name en,
-         part-stands b (i + 12) size (ending h) (Past (at i)) value ev)))))
+      plain (property name value) w (align (i + 12 + size)) next (
+        name-named b (h .strings + offset) (h .strings + h .«strings_size») (Past (at i)) name en,
+        part-stands b (i + 12) size (ending h) (Past (at i)) value ev,
+      )))))
 
   by-stands : (tag : ℕ) (w : Word) (next : ℕ) → token-by b h i tag ≡ Ok (w, next) → Word-stands b w
   by-stands tag w next = go (eqb tag 1) (eqb tag 2) (eqb tag 3) (eqb tag 4) (eqb tag 9)

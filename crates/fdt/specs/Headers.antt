@@ -31,17 +31,17 @@ blocked b =
 
 -- the cells that are used
 abbrev pub header-cells : List ℕ → Header
-header-cells b = record
-  { total = cell b 4
-  ; structure = cell b 8
-  ; «structure_size» = cell b 36
-  ; strings = cell b 12
-  ; «strings_size» = cell b 32
-  }
+header-cells b = record {
+  total = cell b 4;
+  structure = cell b 8;
+  «structure_size» = cell b 36;
+  strings = cell b 12;
+  «strings_size» = cell b 32;
+}
 
 -- the header, or the first of its faults
 abbrev pub header-of : List ℕ → Result Header HeaderFault
 header-of b =
     cond (sized b)
-      (cond (eqb (cell b 0) 0xd00dfeed) (cond (versioned b) (cond (blocked b) (Ok (header-cells b)) (Err Blocks)) (Err Version)) (Err Magic))
-      (Err Size)
+    (cond (eqb (cell b 0) 0xd00dfeed) (cond (versioned b) (cond (blocked b) (Ok (header-cells b)) (Err Blocks)) (Err Version)) (Err Magic))
+    (Err Size)

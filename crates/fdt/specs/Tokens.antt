@@ -80,5 +80,5 @@ token-by b h i tag =
 abbrev pub token-at : List ℕ → Header → ℕ → Result (Word × ℕ) TokenFault
 token-at b h i =
     cond (leb (h .structure) i && eqb (i % 4) 0)
-      (after (cell-or b i (ending h) (Past (at i))) (token-by b h i))
-      (Err (Past (at i)))
+    (after (cell-or b i (ending h) (Past (at i))) (token-by b h i))
+    (Err (Past (at i)))

@@ -38,7 +38,10 @@ impl<'a> Blob<'a> {
     {
         let header = Header::read(bytes)?;
         let total = header.total as usize;
-        Ok(Blob { bytes: &bytes[0..total], header })
+        Ok(Blob {
+            bytes: &bytes[0..total],
+            header,
+        })
     }
 
     // The place of the first token.
@@ -70,10 +73,19 @@ impl<'a> Blob<'a> {
         }
         match cell_at(self.bytes, i, end, past)? {
             1 => self.open_at(place),
-            2 => Ok(Step { token: Token::Close, next: Place(i + 4) }),
+            2 => Ok(Step {
+                token: Token::Close,
+                next: Place(i + 4),
+            }),
             3 => self.property_at(place),
-            4 => Ok(Step { token: Token::Nothing, next: Place(i + 4) }),
-            9 => Ok(Step { token: Token::End, next: Place(i + 4) }),
+            4 => Ok(Step {
+                token: Token::Nothing,
+                next: Place(i + 4),
+            }),
+            9 => Ok(Step {
+                token: Token::End,
+                next: Place(i + 4),
+            }),
             _ => Err(past),
         }
     }
@@ -94,7 +106,10 @@ impl<'a> Blob<'a> {
         let i = place.0;
         let name = name_at(self.bytes, i + 4, self.end(), TokenFault::Past(place))?;
         let next = aligned(i + 4 + name.bytes.len() + 1);
-        Ok(Step { token: Token::Open(name), next: Place(next) })
+        Ok(Step {
+            token: Token::Open(name),
+            next: Place(next),
+        })
     }
 
     // Cell 3, a cell with the value's length, one with the name's offset in the strings block, the value, padded.
@@ -109,9 +124,17 @@ impl<'a> Blob<'a> {
         let offset = cell_at(self.bytes, i + 8, end, past)? as usize;
         let value = part_at(self.bytes, i + 12, size, end, past)?;
         let strings = self.header.strings as usize;
-        let name = name_at(self.bytes, strings + offset, strings + self.header.strings_size as usize, past)?;
+        let name = name_at(
+            self.bytes,
+            strings + offset,
+            strings + self.header.strings_size as usize,
+            past,
+        )?;
         let next = aligned(i + 12 + size);
-        Ok(Step { token: Token::Property(name, value), next: Place(next) })
+        Ok(Step {
+            token: Token::Property(name, value),
+            next: Place(next),
+        })
     }
 }
 

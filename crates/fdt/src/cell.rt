@@ -17,13 +17,22 @@ pub fn cell_at<F: Copy>(bytes: &[u8], at: usize, end: usize, past: F) -> Result<
 }
 
 // The `size` bytes from `at` on, or `past` where they do not end by `end` within the bytes.
-pub fn part_at<'a, F: Copy>(bytes: &'a [u8], at: usize, size: usize, end: usize, past: F) -> Result<Part<'a>, F>
+pub fn part_at<'a, F: Copy>(
+    bytes: &'a [u8],
+    at: usize,
+    size: usize,
+    end: usize,
+    past: F,
+) -> Result<Part<'a>, F>
     ensures { λ r. ⌜ part-seen r ≡ part-or (now (bytes .entry)) at size end past ⌝ }
 {
     if end > bytes.len() || at > end || end - at < size {
         return Err(past);
     }
-    Ok(Part { place: Place(at), bytes: &bytes[at..at + size] })
+    Ok(Part {
+        place: Place(at),
+        bytes: &bytes[at..at + size],
+    })
 }
 
 // How many bytes stand before the first zero byte.
@@ -48,5 +57,8 @@ pub fn name_at<'a, F: Copy>(bytes: &'a [u8], at: usize, end: usize, past: F) -> 
     if size >= end - at {
         return Err(past);
     }
-    Ok(Part { place: Place(at), bytes: &bytes[at..at + size] })
+    Ok(Part {
+        place: Place(at),
+        bytes: &bytes[at..at + size],
+    })
 }

@@ -35,7 +35,10 @@ impl Drop for Rewind<'_> {
         ensures { λ _. ⌜ now (self .exit .0) ≡ self .entry .saved ⌝ }
     {
         *self.cursor = self.saved;
-        let Rewind { cursor: _, saved: _ } = self;
+        let Rewind {
+            cursor: _,
+            saved: _,
+        } = self;
     }
 }
 
@@ -57,7 +60,12 @@ impl<'a> Blob<'a> {
             let step = self.token_at(at)?;
             match step.token {
                 Token::Property(name, value) => {
-                    return Ok(Some(Property { place: at, name, value, next: step.next }));
+                    return Ok(Some(Property {
+                        place: at,
+                        name,
+                        value,
+                        next: step.next,
+                    }));
                 }
                 Token::Nothing => at = step.next,
                 Token::Open(_) | Token::Close | Token::End => return Ok(None),
@@ -67,7 +75,11 @@ impl<'a> Blob<'a> {
 
     // The first property of this name, of the node that the cursor stands in, from the cursor on; 5 where a token
     // cannot be read. Found, absent or refused, the cursor is as it was.
-    pub fn look_ahead(&self, cursor: &mut Cursor, name: &[u8]) -> Result<Option<Property<'a>>, TokenFault>
+    pub fn look_ahead(
+        &self,
+        cursor: &mut Cursor,
+        name: &[u8],
+    ) -> Result<Option<Property<'a>>, TokenFault>
         ensures back { λ r. ⌜ now (cursor .exit) ≡ now (cursor .entry) ⌝ }
         ensures finds { λ r. ⌜ property-seen r ≡ sought (now (name .entry)) (items (now (self .entry) .bytes .now) (now (self .entry) .header) (now (cursor .entry) .place .0)) ⌝ }
     {
@@ -80,7 +92,12 @@ impl<'a> Blob<'a> {
             match step.token {
                 Token::Property(found, value) => {
                     if same(found.bytes, name) {
-                        return Ok(Some(Property { place: at, name: found, value, next: step.next }));
+                        return Ok(Some(Property {
+                            place: at,
+                            name: found,
+                            value,
+                            next: step.next,
+                        }));
                     }
                 }
                 Token::Nothing => {}

@@ -1,11 +1,9 @@
 ghost use mathlib.Core.Path.{_≡_};
 ghost use Rattle.fdt.specs.declared.fault.TokenFault.the-variants.{Header};
 use super::part::Place;
-use super::part::PlaceDebug;
-use super::part::PlacePartialEq;
 
 // Why a header is refused, in the order of testing.
-#[derive(Clone, Copy, PartialEq, Eq, Debug)]
+#[derive(Clone, Copy)]
 pub enum HeaderFault {
     // Fewer than 40 bytes, or a total size under 40, over 65,536 or over the bytes handed in.
     Size,
@@ -18,7 +16,7 @@ pub enum HeaderFault {
 }
 
 // Why the tokens are refused, each with the place of the token; the smaller number counts.
-#[derive(Clone, Copy, PartialEq, Eq, Debug)]
+#[derive(Clone, Copy)]
 pub enum TokenFault {
     // The header's fault, held whole.
     Header(HeaderFault),

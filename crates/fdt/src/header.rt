@@ -40,7 +40,13 @@ impl Header {
         if structure % 4 != 0 || structure_size % 4 != 0 {
             return Err(HeaderFault::Blocks);
         }
-        Ok(Header { total, structure, structure_size, strings, strings_size })
+        Ok(Header {
+            total,
+            structure,
+            structure_size,
+            strings,
+            strings_size,
+        })
     }
 }
 

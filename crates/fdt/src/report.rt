@@ -26,7 +26,12 @@ impl HeaderFault {
             HeaderFault::Version => 3,
             HeaderFault::Blocks => 4,
         };
-        Report { layer: 1, number, node: Place(0), property: Place(0) }
+        Report {
+            layer: 1,
+            number,
+            node: Place(0),
+            property: Place(0),
+        }
     }
 }
 
@@ -37,9 +42,24 @@ impl TokenFault {
     {
         match self {
             TokenFault::Header(f) => f.report(),
-            TokenFault::Past(node) => Report { layer: 2, number: 5, node, property: Place(0) },
-            TokenFault::Rule(node) => Report { layer: 2, number: 6, node, property: Place(0) },
-            TokenFault::Depth(node) => Report { layer: 2, number: 7, node, property: Place(0) },
+            TokenFault::Past(node) => Report {
+                layer: 2,
+                number: 5,
+                node,
+                property: Place(0),
+            },
+            TokenFault::Rule(node) => Report {
+                layer: 2,
+                number: 6,
+                node,
+                property: Place(0),
+            },
+            TokenFault::Depth(node) => Report {
+                layer: 2,
+                number: 7,
+                node,
+                property: Place(0),
+            },
         }
     }
 }

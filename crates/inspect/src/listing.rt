@@ -84,8 +84,14 @@ fn count_properties(tree: &Tree<'_>, node: &Node<'_>) -> Result<usize, TokenFaul
 
 // A line for each node, in blob order.
 fn list_nodes(heap: Global, tree: &Tree<'_>, out: &mut Vec<u8>) -> Result<Counts, Stop> {
-    let mut path = Path { bytes: Vec::new(heap), ends: Vec::new(heap) };
-    let mut counts = Counts { nodes: 0, properties: 0 };
+    let mut path = Path {
+        bytes: Vec::new(heap),
+        ends: Vec::new(heap),
+    };
+    let mut counts = Counts {
+        nodes: 0,
+        properties: 0,
+    };
     let mut at = tree.start();
     loop {
         let Some(node) = tree.next_node(at)? else {
@@ -94,7 +100,9 @@ fn list_nodes(heap: Global, tree: &Tree<'_>, out: &mut Vec<u8>) -> Result<Counts
         path.enter(&node)?;
         list_node(heap, &node, path.bytes.as_slice(), out)?;
         counts.nodes = counts.nodes.saturating_add(1);
-        counts.properties = counts.properties.saturating_add(count_properties(tree, &node)?);
+        counts.properties = counts
+            .properties
+            .saturating_add(count_properties(tree, &node)?);
         at = node.body;
     }
 }
@@ -120,7 +128,10 @@ fn list_tree(heap: Global, bytes: &[u8], out: &mut Vec<u8>) -> Result<(), Stop> 
     let phandles = tree.phandles()?;
     let nodes = counts.nodes;
     let properties = counts.properties;
-    let line = format!(heap, "opened: {nodes} nodes, {properties} properties, {phandles} phandles\n")?;
+    let line = format!(
+        heap,
+        "opened: {nodes} nodes, {properties} properties, {phandles} phandles\n"
+    )?;
     out.extend_from_slice(line.as_bytes())?;
     Ok(())
 }
@@ -130,7 +141,10 @@ fn refusal(heap: Global, report: Report) -> Result<String, AllocError> {
     let number = report.number;
     let node = report.node.0;
     let property = report.property.0;
-    format!(heap, "refused: layer {layer}, number {number}, node {node}, property {property}\n")
+    format!(
+        heap,
+        "refused: layer {layer}, number {number}, node {node}, property {property}\n"
+    )
 }
 
 // What is in a blob, or the refusal.

@@ -80,24 +80,24 @@ module _ {X : Type 0} (fit : X → Bool) where
 
   by-cases : (xs : List X) (o : Option ℕ) → Cases o (Nowhere fit xs) (At 0 xs) → FirstFit fit xs o
   by-cases xs None p = record {
-      found = λ i. record {
-        only = λ e. absurd (let y : _≡_ {A = ℕ} 0 1 = cc in omega arith);
-        every = λ f. let d = element xs i (f .within) in two-tests (getD xs i d) (f .passes d) (p i d (f .within))
-      };
-      none = record { only = λ e. p; every = λ f. refl }
-    }
+    found = λ i. record {
+      only = λ e. absurd (let y : _≡_ {A = ℕ} 0 1 = cc in omega arith);
+      every = λ f. let d = element xs i (f .within) in two-tests (getD xs i d) (f .passes d) (p i d (f .within));
+    };
+    none = record { only = λ e. p; every = λ f. refl };
+  }
   by-cases xs (Some j) p =
       let here = from-zero xs j p in
       let d = element xs j (here .within) in
       record {
         found = λ i. record {
           only = λ e. let s : j ≡ i = cc in rw s at here;
-          every = λ f. ap Some (one-first xs d j i here f)
+          every = λ f. ap Some (one-first xs d j i here f);
         };
         none = record {
           only = λ e. absurd (let y : _≡_ {A = ℕ} 0 1 = cc in omega arith);
-          every = λ f. two-tests (getD xs j d) (here .passes d) (f j d (here .within))
-        }
+          every = λ f. two-tests (getD xs j d) (here .passes d) (f j d (here .within));
+        };
       }
 
   pub first-fit : (xs : List X) → FirstFit fit xs (first fit xs)

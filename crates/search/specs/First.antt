@@ -3,7 +3,7 @@ use mathlib.Core.Bool.{Bool, true, false, cond}
 use mathlib.Core.List.{List, [], _∷_}
 use mathlib.Core.Path.{_≡_}
 use Prim.Native.Nat.{ℕ, _+_, _<_}
-use lib.ListN.{length, getD}
+use lib.ListN.{length, getD, drop}
 use Rattle.std.specs.declared.option.Option.{Option}
 use Rattle.std.specs.declared.option.Option.the-variants.{Some, None}
 use Rattle.search.specs.Exactly.{Exactly}
@@ -15,6 +15,11 @@ first-from fit n (x ∷ xs) = cond (fit x) (Some n) (first-from fit (n + 1) xs)
 
 abbrev pub first : {X : Type 0} → (X → Bool) → List X → Option ℕ
 first fit xs = first-from fit 0 xs
+
+-- the search from the index i on, by whether the element there passes, None where there is none
+abbrev pub first-by : {X : Type 0} → (X → Bool) → ℕ → List X → Option Bool → Option ℕ
+first-by fit i xs None = None
+first-by fit i xs (Some t) = cond t (Some i) (first-from fit (i + 1) (drop (i + 1) xs))
 
 -- no element passes
 abbrev pub Nowhere : {X : Type 0} → (X → Bool) → List X → Type 0

@@ -19,7 +19,7 @@ use Rattle.tree.specs.declared.fault.RouteFault.the-variants.{Token, Value, Ph
 use Rattle.tree.specs.Nodes.{Entry, Listed, listed, broken}
 use Rattle.tree.specs.Phandles.{phandle-of, places, held, one-cell, is-cell, used, good-handle, handle-checked, phandle-checked, phandles-from, phandles, handle, Good-phandles}
 use Rattle.fdt.proofs.Onward.{after-by, cond-ok}
-use Rattle.tree.proofs.Trees.{no-result}
+use Rattle.rules.proofs.Trees.{no-result}
 use Rattle.tree.proofs.Readable.{Clean, clean-more}
 
 pub held-ok : {X : Type 0} (r : Result X TokenFault) (x : X) → held r ≡ Ok x → r ≡ Ok x
@@ -59,7 +59,7 @@ good-fine node p before has four e =
       one = four;
       some = eqb-false x 0 (o .0);
       most = eqb-false x 0xffffffff (o .1);
-      new = held-ok (used x before) u eu ∙ ap Ok (w .0)
+      new = held-ok (used x before) u eu ∙ ap Ok (w .0);
     }) (t .1)
 
 handle-fine : (node : ℕ) (p : Owned) (before : List Listed) (has : Bool) → handle-checked node before (Some p) ≡ Ok has → Fine-one before p
@@ -73,9 +73,10 @@ pub accepted-fine : (n m : ℕ) (before es : List Listed) → phandles-from n be
 accepted-fine n m before [] e = tt
 accepted-fine n m before (broken f ∷ es) e = no-result e
 accepted-fine n m before (listed d ∷ es) e =
-    after-by (phandle-checked before d) (λ has. phandles-from (cond has (n + 1) n) (before ++ (listed d ∷ [])) es) m (λ has eh rest.
-    ((λ p ep. handle-fine (d .place) p before has (sym (ap (λ r. after (held r) (handle-checked (d .place) before)) ep) ∙ eh)),
-     accepted-fine (cond has (n + 1) n) m (before ++ (listed d ∷ [])) es rest)) e
+    after-by (phandle-checked before d) (λ has. phandles-from (cond has (n + 1) n) (before ++ (listed d ∷ [])) es) m (λ has eh rest. (
+      (λ p ep. handle-fine (d .place) p before has (sym (ap (λ r. after (held r) (handle-checked (d .place) before)) ep) ∙ eh)),
+      accepted-fine (cond has (n + 1) n) m (before ++ (listed d ∷ [])) es rest,
+    )) e
 
 -- what is fine is accepted
 fine-handle : (node : ℕ) (p : Owned) (before : List Listed) → Fine-one before p → handle-checked node before (Some p) ≡ Ok true
@@ -123,7 +124,7 @@ used-has x [] ys d p q four e u =
 used-has x (broken f ∷ xs) ys d p q four e u = no-result u
 used-has x (listed c ∷ xs) ys d p q four e u =
     after-by (phandle-of c) (λ o. cond (is-cell x o) (Ok true) (used x (xs ++ (listed d ∷ ys)))) false
-      (λ o eo w. used-has x xs ys d p q four e (passed (is-cell x o) (used x (xs ++ (listed d ∷ ys))) w)) u
+    (λ o eo w. used-has x xs ys d p q four e (passed (is-cell x o) (used x (xs ++ (listed d ∷ ys))) w)) u
 
 -- a phandle that no node has is not used
 is-cell-no : (x : ℕ) (o : Option Owned) → ((p : Owned) → o ≡ Some p → handle p ≡ x → ⊥) → is-cell x o ≡ false
@@ -153,30 +154,34 @@ fine-good es f = record { one = one; proper = proper; distinct = distinct }
   where
     at-node : (xs ys : List Listed) (e : Entry) → es ≡ xs ++ (listed e ∷ ys) → Fine-at xs e
     at-node xs ys e s = fine-split [] xs ys e (subst (λ (z : List Listed). Fine [] z) s f)
+
     one : (xs ys : List Listed) (e : Entry) (p : Owned) → es ≡ xs ++ (listed e ∷ ys) → phandle-of e ≡ Ok (Some p) → length (p .value .bytes) ≡ 4
     one xs ys e p s q = at-node xs ys e s p q .one
+
     proper : (xs ys : List Listed) (e : Entry) (p : Owned) → es ≡ xs ++ (listed e ∷ ys) → phandle-of e ≡ Ok (Some p) → (handle p ≡ 0 → ⊥) × (handle p ≡ 0xffffffff → ⊥)
     proper xs ys e p s q = (at-node xs ys e s p q .some, at-node xs ys e s p q .most)
+
     distinct : (xs ys zs : List Listed) (d e : Entry) (p q : Owned) → es ≡ xs ++ (listed d ∷ (ys ++ (listed e ∷ zs)))
         → phandle-of d ≡ Ok (Some p) → phandle-of e ≡ Ok (Some q) → handle p ≡ handle q → ⊥
     distinct xs ys zs d e p q s pd pe same =
         used-has (handle q) xs ys d p pd (one xs (ys ++ (listed e ∷ zs)) d p s pd) same
-          (at-node (xs ++ (listed d ∷ ys)) zs e (s ∙ sym (append-assoc xs (listed d ∷ ys) (listed e ∷ zs))) q pe .new)
+        (at-node (xs ++ (listed d ∷ ys)) zs e (s ∙ sym (append-assoc xs (listed d ∷ ys) (listed e ∷ zs))) q pe .new)
 
 -- good phandles are fine, node by node
 module _ (all : List Listed) (g : Good-phandles all) where
   good-from : (before es : List Listed) → all ≡ before ++ es → Clean before → Clean es → Fine before es
   good-from before [] s cb ce = tt
   good-from before (broken f ∷ es) s cb ce = absurd ce
-  good-from before (listed e ∷ es) s cb ce =
-      ((λ p q. record {
-          one = g .one before es e p s q;
-          some = g .proper before es e p s q .0;
-          most = g .proper before es e p s q .1;
-          new = used-new (handle p) before cb (λ xs ys d r sb qd same.
-            g .distinct xs ys es d e r p (s ∙ ap (λ z. z ++ (listed e ∷ es)) sb ∙ append-assoc xs (listed d ∷ ys) (listed e ∷ es)) qd q same)
-        }),
-       good-from (before ++ (listed e ∷ [])) es (s ∙ sym (append-assoc before (listed e ∷ []) es)) (clean-more before (listed e ∷ []) cb (ce .0, tt)) (ce .1))
+  good-from before (listed e ∷ es) s cb ce = (
+    (λ p q. record {
+      one = g .one before es e p s q;
+      some = g .proper before es e p s q .0;
+      most = g .proper before es e p s q .1;
+      new = used-new (handle p) before cb (λ xs ys d r sb qd same.
+          g .distinct xs ys es d e r p (s ∙ ap (λ z. z ++ (listed e ∷ es)) sb ∙ append-assoc xs (listed d ∷ ys) (listed e ∷ es)) qd q same);
+    }),
+    good-from (before ++ (listed e ∷ [])) es (s ∙ sym (append-assoc before (listed e ∷ []) es)) (clean-more before (listed e ∷ []) cb (ce .0, tt)) (ce .1),
+  )
 
 pub good-fine-all : (es : List Listed) → Good-phandles es → Clean es → Fine [] es
 good-fine-all es g c = good-from es g [] es refl tt c

@@ -1,5 +1,4 @@
 pub mod Handles
 pub mod Opening
 pub mod Readable
-pub mod Trees
 pub mod Using

@@ -15,13 +15,13 @@ use Rattle.fdt.specs.Items.{all-items}
 use Rattle.fdt.specs.Tokens.{after, ending}
 use Rattle.fdt.proofs.Onward.{after-by, ok-same}
 use Rattle.tree.specs.declared.fault.RouteFault.{RouteFault}
-use Rattle.tree.specs.declared.rules.Walk.{Walk}
+use Rattle.rules.specs.declared.walk.Walk.{Walk}
 use Rattle.tree.specs.Nodes.{all-nodes}
-use Rattle.tree.specs.Opening.{header-held, walked, walked-of, open-of, Opened, Opens}
+use Rattle.tree.specs.Opening.{header-held, source-walked, walked-of, open-of, Opened, Opens}
 use Rattle.tree.specs.Phandles.{held, phandles}
 use Rattle.tree.proofs.Handles.{held-ok, accepted-fine, fine-accepted, fine-good, good-fine-all}
 use Rattle.tree.proofs.Readable.{clean-nodes}
-use Rattle.tree.proofs.Trees.{no-result, tree-accepted, accepted-tree}
+use Rattle.rules.proofs.Trees.{no-result, tree-accepted, accepted-tree}
 
 header-held-ok : {X : Type 0} (r : Result X HeaderFault) (x : X) → header-held r ≡ Ok x → r ≡ Ok x
 header-held-ok (Ok y) x e = cc
@@ -35,12 +35,12 @@ blob-parts b s (Ok h) e =
     (ap Ok hh, sym (ap (λ z. z .bytes) q) ∙ ap (λ (z : Header). take (z .total) b) hh)
 blob-parts b s (Err f) e = no-result e
 
-walk-parts : (b : List ℕ) (s : Source) → walked-of b ≡ Ok s → (blob-of b ≡ Ok s) × ((w : Walk) × (walked s ≡ Ok w))
+walk-parts : (b : List ℕ) (s : Source) → walked-of b ≡ Ok s → (blob-of b ≡ Ok s) × ((w : Walk) × (source-walked s ≡ Ok w))
 walk-parts b s =
-    after-by (header-held (blob-of b)) (λ s. after (walked s) (λ w. Ok s)) s (λ t et.
-    after-by (walked t) (λ w. Ok t) s (λ w ew e.
+    after-by (header-held (blob-of b)) (λ s. after (source-walked s) (λ w. Ok s)) s (λ t et.
+    after-by (source-walked t) (λ w. Ok t) s (λ w ew e.
     let q : t ≡ s = ok-same e in
-    (header-held-ok (blob-of b) t et ∙ ap Ok q, (w, subst (λ (z : Source). walked z ≡ Ok w) q ew))))
+    (header-held-ok (blob-of b) t et ∙ ap Ok q, (w, subst (λ (z : Source). source-walked z ≡ Ok w) q ew))))
 
 open-parts : (b : List ℕ) (s : Source) → open-of b ≡ Ok s → (walked-of b ≡ Ok s) × ((n : ℕ) × (phandles (all-nodes (s .bytes) (s .header)) ≡ Ok n))
 open-parts b s =
@@ -58,7 +58,7 @@ accepted-opened b s e =
       header = p .0;
       bytes = p .1;
       tree = accepted-tree (ending (s .header)) (s .header .structure) (all-items (s .bytes) (s .header)) (w .1 .0) (w .1 .1);
-      phandles = fine-good (all-nodes (s .bytes) (s .header)) (accepted-fine 0 (o .1 .0) [] (all-nodes (s .bytes) (s .header)) (o .1 .1))
+      phandles = fine-good (all-nodes (s .bytes) (s .header)) (accepted-fine 0 (o .1 .0) [] (all-nodes (s .bytes) (s .header)) (o .1 .1));
     }
 
 opened-accepted : (b : List ℕ) (s : Source) → Opened b s → open-of b ≡ Ok s
@@ -69,7 +69,7 @@ opened-accepted b s o =
     let w = tree-accepted (ending h) (h .structure) ts (o .tree) in
     let clean = clean-nodes (ending h) (w .0) (h .structure) ts (w .1) in
     let n = fine-accepted 0 [] (all-nodes (s .bytes) h) clean (good-fine-all (all-nodes (s .bytes) h) (o .phandles) clean) in
-    let walk : walked-of b ≡ Ok s = ap (λ r. after (header-held r) (λ s. after (walked s) (λ w. Ok s))) blob ∙ ap (λ r. after r (λ w. Ok s)) (w .1) in
+    let walk : walked-of b ≡ Ok s = ap (λ r. after (header-held r) (λ s. after (source-walked s) (λ w. Ok s))) blob ∙ ap (λ r. after r (λ w. Ok s)) (w .1) in
     ap (λ r. after (held r) (λ s. after (phandles (all-nodes (s .bytes) (s .header))) (λ n. Ok s))) walk
     ∙ ap (λ r. after r (λ n. Ok s)) (n .1)
 
@@ -78,4 +78,4 @@ opens-exactly b r e s = record { only = λ q. accepted-opened b s (sym e ∙ q);
 
 -- equal blobs are opened alike
 pub open-same : (b c : List ℕ) → blob-of b ≡ blob-of c → open-of b ≡ open-of c
-open-same b c e = ap (λ r. after (held (after (header-held r) (λ s. after (walked s) (λ w. Ok s)))) (λ s. after (phandles (all-nodes (s .bytes) (s .header))) (λ n. Ok s))) e
+open-same b c e = ap (λ r. after (held (after (header-held r) (λ s. after (source-walked s) (λ w. Ok s)))) (λ s. after (phandles (all-nodes (s .bytes) (s .header))) (λ n. Ok s))) e

@@ -17,12 +17,12 @@ use Rattle.fdt.specs.Cells.{Piece}
 use Rattle.fdt.specs.Tokens.{Word, opens, property, closes, nothing, ends, at}
 use Rattle.fdt.specs.Items.{Item, item, bad}
 use Rattle.fdt.specs.Properties.{Owned, sought}
-use Rattle.tree.specs.declared.rules.Walk.{Walk}
-use Rattle.tree.specs.declared.rules.Stage.the-variants.{Start, Properties as Owning, Subnodes, Finished}
-use Rattle.tree.specs.Rules.{walk, admitted, checked}
+use Rattle.rules.specs.declared.walk.Walk.{Walk}
+use Rattle.rules.specs.declared.walk.Stage.the-variants.{Start, Properties as Owning, Subnodes, Finished}
+use Rattle.rules.specs.Rules.{walk, admitted, checked}
 use Rattle.tree.specs.Nodes.{Entry, Listed, listed, broken, nodes}
 use Rattle.tree.specs.Phandles.{phandle-name, phandle-of}
-use Rattle.tree.proofs.Trees.{no-result, Standing, start, inside, done, depth-of, stand, up, close-in}
+use Rattle.rules.proofs.Trees.{no-result, Standing, start, inside, done, depth-of, stand, up, close-in}
 
 -- every node was read, and so was its phandle
 abbrev pub Clean : List Listed → Type 0

@@ -2,5 +2,3 @@ pub mod Nodes
 pub mod Opening
 pub mod Phandles
 pub mod Reports
-pub mod Rules
-pub mod Trees

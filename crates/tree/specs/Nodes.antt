@@ -34,7 +34,7 @@ nodes depth [] = []
 nodes depth (bad f ∷ ts) = broken f ∷ []
 nodes depth (item i (opens n) next ∷ ts) =
     cond (leb 16 depth) (broken (Depth (at i)) ∷ [])
-      (listed (record { place = i; name = n; body = next; depth = depth + 1; rest = ts }) ∷ nodes (depth + 1) ts)
+    (listed (record { place = i; name = n; body = next; depth = depth + 1; rest = ts }) ∷ nodes (depth + 1) ts)
 nodes depth (item i (property n v) next ∷ ts) = nodes depth ts
 nodes zero (item i closes next ∷ ts) = broken (Rule (at i)) ∷ []
 nodes (suc depth) (item i closes next ∷ ts) = nodes depth ts
@@ -50,13 +50,13 @@ abbrev pub all-nodes : List ℕ → Header → List Listed
 all-nodes b h = nodes-from b h 0 (h .structure)
 
 abbrev pub entry : List ℕ → Header → Node → Entry
-entry b h n = record
-  { place = n .place .0
-  ; name = piece (n .name)
-  ; body = n .body .place .0
-  ; depth = n .body .depth
-  ; rest = items b h (n .body .place .0)
-  }
+entry b h n = record {
+  place = n .place .0;
+  name = piece (n .name);
+  body = n .body .place .0;
+  depth = n .body .depth;
+  rest = items b h (n .body .place .0);
+}
 
 abbrev pub entry-of : List ℕ → Header → Option Node → Option Entry
 entry-of b h None = None
@@ -95,7 +95,7 @@ parent-from p depth above [] = Ok None
 parent-from p depth above (broken f ∷ es) = Err f
 parent-from p depth above (listed e ∷ es) =
     cond (eqb (e .place) p) (Ok above)
-      (parent-from p depth (cond (eqb (e .depth + 1) depth) (Some e) above) es)
+    (parent-from p depth (cond (eqb (e .depth + 1) depth) (Some e) above) es)
 
 abbrev pub parent-of : ℕ → ℕ → List Listed → Result (Option Entry) TokenFault
 parent-of p depth es = parent-from p depth None es

@@ -16,12 +16,12 @@ use Rattle.fdt.specs.Headers.{header-of}
 use Rattle.fdt.specs.Items.{all-items}
 use Rattle.fdt.specs.Tokens.{after, ending}
 use Rattle.tree.specs.declared.fault.RouteFault.{RouteFault}
-use Rattle.tree.specs.declared.rules.Walk.{Walk}
+use Rattle.rules.specs.declared.walk.Walk.{Walk}
 use Rattle.tree.specs.declared.tree.Tree.{Tree}
 use Rattle.tree.specs.Nodes.{all-nodes}
 use Rattle.tree.specs.Phandles.{held, phandles, Good-phandles}
-use Rattle.tree.specs.Rules.{checked, beginning}
-use Rattle.tree.specs.Trees.{OneTree}
+use Rattle.rules.specs.Rules.{walked}
+use Rattle.rules.specs.Trees.{OneTree}
 
 abbrev pub blob-source : Blob → Source
 blob-source b = source (b .bytes .now) (b .header)
@@ -39,13 +39,12 @@ abbrev pub header-held : {X : Type 0} → Result X HeaderFault → Result X Toke
 header-held (Ok x) = Ok x
 header-held (Err f) = Err (fault.Header f)
 
--- the walk over all tokens
-abbrev pub walked : Source → Result Walk TokenFault
-walked s = checked (ending (s .header)) (Ok (beginning (s .header))) (all-items (s .bytes) (s .header))
+abbrev pub source-walked : Source → Result Walk TokenFault
+source-walked s = walked (s .bytes) (s .header)
 
 -- a good header, then good tokens
 abbrev pub walked-of : List ℕ → Result Source TokenFault
-walked-of b = after (header-held (blob-of b)) (λ s. after (walked s) (λ w. Ok s))
+walked-of b = after (header-held (blob-of b)) (λ s. after (source-walked s) (λ w. Ok s))
 
 -- then good phandles
 abbrev pub open-of : List ℕ → Result Source RouteFault

@@ -59,7 +59,7 @@ used x (listed e ∷ es) = after (phandle-of e) (λ p. cond (is-cell x p) (Ok tr
 abbrev pub good-handle : ℕ → Owned → ℕ → List Listed → Result Bool RouteFault
 good-handle node p x before =
     cond (eqb x 0 || eqb x 0xffffffff) (Err (Phandle (places node (p .place))))
-      (after (held (used x before)) (λ u. cond u (Err (Phandle (places node (p .place)))) (Ok true)))
+    (after (held (used x before)) (λ u. cond u (Err (Phandle (places node (p .place)))) (Ok true)))
 
 -- whether a node has a phandle, which is then one cell and good
 abbrev pub handle-checked : ℕ → List Listed → Option Owned → Result Bool RouteFault

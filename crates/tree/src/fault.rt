@@ -2,22 +2,18 @@ ghost use mathlib.Core.Path.{_≡_};
 ghost use Rattle.tree.specs.declared.fault.RouteFault.the-variants.{Token};
 ghost use Rattle.tree.specs.Reports.{placed, route-report};
 use fdt::fault::TokenFault;
-use fdt::fault::TokenFaultDebug;
-use fdt::fault::TokenFaultPartialEq;
 use fdt::part::Place;
-use fdt::part::PlaceDebug;
-use fdt::part::PlacePartialEq;
 use fdt::report::Report;
 
 // Where a fault was met: the node whose property was read or missed, and the property's place, 0 where it was missed.
-#[derive(Clone, Copy, PartialEq, Eq, Debug)]
+#[derive(Clone, Copy)]
 pub struct At {
     pub node: Place,
     pub property: Place,
 }
 
 // Why a tree is not opened, or a specifier has no route.
-#[derive(Clone, Copy, PartialEq, Eq, Debug)]
+#[derive(Clone, Copy)]
 pub enum RouteFault {
     // The fault of the tokens or of the header, held whole.
     Token(TokenFault),
@@ -53,7 +49,12 @@ pub impl From<TokenFault> for RouteFault as RouteFromToken {
 fn met(number: u8, at: At) -> Report
     ensures { λ r. ⌜ r ≡ placed number at ⌝ }
 {
-    Report { layer: 3, number, node: at.node, property: at.property }
+    Report {
+        layer: 3,
+        number,
+        node: at.node,
+        property: at.property,
+    }
 }
 
 impl RouteFault {
@@ -66,7 +67,13 @@ impl RouteFault {
             RouteFault::Value(at) => met(8, at),
             RouteFault::Phandle(at) => met(9, at),
             RouteFault::NoNode(at) => met(12, at),
-            RouteFault::NoParent(node) => met(13, At { node, property: Place(0) }),
+            RouteFault::NoParent(node) => met(
+                13,
+                At {
+                    node,
+                    property: Place(0),
+                },
+            ),
             RouteFault::Short(at) => met(14, at),
             RouteFault::NoEnd(at) => met(15, at),
             RouteFault::Row(at) => met(16, at),

@@ -3,12 +3,12 @@ ghost use mathlib.Core.List.{List};
 ghost use Prim.Native.Nat.{ℕ};
 ghost use Rattle.fdt.specs.Blobs.{Same-front};
 ghost use Rattle.tree.specs.Opening.{Opens, open-of, tree-seen, walked-of, walked-seen};
+use super::fault::RouteFault;
+use super::fault::RouteFromToken;
 use fdt::blob::Blob;
 use fdt::fault::TokenFault;
 use fdt::fault::TokenFromHeader;
-use super::fault::RouteFault;
-use super::fault::RouteFromToken;
-use super::rules::walk_tokens;
+use rules::walk::walk_tokens;
 
 pub mod nodes;
 pub mod phandles;
@@ -33,7 +33,9 @@ impl<'a> Tree<'a> {
     fn read(bytes: &'a [u8]) -> Result<Tree<'a>, RouteFault>
         ensures { λ r. ⌜ tree-seen r ≡ open-of (now (bytes .entry)) ⌝ }
     {
-        let tree = Tree { blob: walked(bytes)? };
+        let tree = Tree {
+            blob: walked(bytes)?,
+        };
         let _count = tree.phandles()?;
         Ok(tree)
     }

@@ -2,20 +2,23 @@ ghost use mathlib.Core.Path.{_≡_};
 ghost use Rattle.fdt.specs.Items.{items};
 ghost use Rattle.fdt.specs.Properties.{Property-goes, property-seen, first-property, sought};
 ghost use Rattle.tree.specs.Nodes.{Goes-on, all-nodes, first-node, listed-by, node-at, node-seen, nodes-from, parent-of};
+use super::Tree;
+use crate::node::Node;
 use fdt::cursor::Cursor;
 use fdt::cursor::Property;
 use fdt::fault::TokenFault;
 use fdt::part::Place;
 use fdt::token::Token;
-use crate::node::Node;
-use super::Tree;
 
 impl<'a> Tree<'a> {
     // Before the first token.
     pub fn start(&self) -> Cursor
         ensures { λ r. ⌜ (r .place .0 ≡ now (self .entry) .blob .header .structure) × (r .depth ≡ 0) ⌝ }
     {
-        Cursor { place: self.blob.start(), depth: 0 }
+        Cursor {
+            place: self.blob.start(),
+            depth: 0,
+        }
     }
 
     // The first node from a cursor on, in blob order, at any depth.
@@ -32,8 +35,15 @@ impl<'a> Tree<'a> {
                     if at.depth >= 16 {
                         return Err(TokenFault::Depth(at.place));
                     }
-                    let body = Cursor { place: step.next, depth: at.depth + 1 };
-                    return Ok(Some(Node { place: at.place, name, body }));
+                    let body = Cursor {
+                        place: step.next,
+                        depth: at.depth + 1,
+                    };
+                    return Ok(Some(Node {
+                        place: at.place,
+                        name,
+                        body,
+                    }));
                 }
                 Token::Close => {
                     if at.depth == 0 {

@@ -3,21 +3,24 @@ ghost use lib.ListN.{take};
 ghost use Rattle.fdt.specs.Properties.{option-seen, owned, property-seen};
 ghost use Rattle.tree.specs.Nodes.{all-nodes, entry, node-seen};
 ghost use Rattle.tree.specs.Phandles.{is-cell, one-cell, phandle-checked, phandle-of, phandles, used, with-phandle};
-use fdt::cell::cell_at;
-use fdt::cursor::Property;
-use fdt::fault::TokenFault;
-use fdt::part::Place;
+use super::Tree;
 use crate::fault::At;
 use crate::fault::RouteFault;
 use crate::fault::RouteFromToken;
 use crate::node::Node;
-use super::Tree;
+use fdt::cell::cell_at;
+use fdt::cursor::Property;
+use fdt::fault::TokenFault;
+use fdt::part::Place;
 
 // The one cell of a property of a node; 8 where its value is not one cell.
 pub fn one_cell(node: Place, property: &Property<'_>) -> Result<u32, RouteFault>
     ensures { λ r. ⌜ r ≡ one-cell (node .0) (owned (now (property .entry))) ⌝ }
 {
-    let fault = RouteFault::Value(At { node, property: property.place });
+    let fault = RouteFault::Value(At {
+        node,
+        property: property.place,
+    });
     if property.value.bytes.len() != 4 {
         return Err(fault);
     }
@@ -89,7 +92,10 @@ impl<'a> Tree<'a> {
             return Ok(false);
         };
         let phandle = one_cell(node.place, &property)?;
-        let fault = RouteFault::Phandle(At { node: node.place, property: property.place });
+        let fault = RouteFault::Phandle(At {
+            node: node.place,
+            property: property.place,
+        });
         if phandle == 0 || phandle == 0xffffffff {
             return Err(fault);
         }

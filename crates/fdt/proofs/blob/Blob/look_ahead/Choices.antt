@@ -10,7 +10,7 @@ abbrev pub Inv-loop-step : given.InvT-loop-step
 Inv-loop-step l =
     (l .guard .saved ≡ l .entry .guard .saved)
     × (sought (l .name) (items (l .self .bytes .now) (l .self .header) (l .guard .cursor .now .place .0))
-      ≡ sought (l .name) (items (l .self .bytes .now) (l .self .header) (l .entry .guard .cursor .now .place .0)))
+    ≡ sought (l .name) (items (l .self .bytes .now) (l .self .header) (l .entry .guard .cursor .now .place .0)))
 
 abbrev pub μ-loop-step : given.MeasureT-loop-step
 μ-loop-step l = ending (l .self .header) - l .guard .cursor .now .place .0

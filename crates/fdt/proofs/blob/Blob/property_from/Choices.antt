@@ -10,7 +10,7 @@ abbrev pub Inv-loop-step : given.InvT-loop-step
 Inv-loop-step l =
     (l .entry .at .0 ≤ l .at .0)
     × (first-property (items (l .self .bytes .now) (l .self .header) (l .at .0))
-      ≡ first-property (items (l .self .bytes .now) (l .self .header) (l .entry .at .0)))
+    ≡ first-property (items (l .self .bytes .now) (l .self .header) (l .entry .at .0)))
 
 abbrev pub μ-loop-step : given.MeasureT-loop-step
 μ-loop-step l = ending (l .self .header) - l .at .0

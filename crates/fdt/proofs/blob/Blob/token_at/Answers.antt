@@ -27,5 +27,5 @@ returns c =
       is = e;
       stands = token-stands b h i (step-seen (c .read-token .result)) e;
       goes = step-goes b h i (c .read-token .result) e;
-      rest = items-is b h i ∙ ap (more (items b h) i) (sym e)
+      rest = items-is b h i ∙ ap (more (items b h) i) (sym e);
     }

@@ -37,7 +37,7 @@ returns-in-Break-phandle c =
     let p = err-from-errBy (c .from-residual-in-Break-phandle .result) (c .from-residual-in-Break-phandle .ensures .1) in
     let l = listed-some b h (at .depth) (at .place .0) (c .in-Continue-node .field-0) (c .in-Continue-node .ensures tt .rest) node (c .in-Some .is) in
     let e = used-turn (c .args .phandle) (c .loop-left .left) (nodes-from b h (at .depth) (at .place .0)) (entry b h node) (nodes-from b h (node .body .depth) (node .body .place .0))
-        (Err (c .in-Break-phandle .field-0 .0)) (omega arith) l (c .in-Break-phandle .ensures tt) in
+    (Err (c .in-Break-phandle .field-0 .0)) (omega arith) l (c .in-Break-phandle .ensures tt) in
     rw (p .1, p .2) (sym e ∙ c .loop-left .inv)
 
 pub returns-then-is-cell : need.returns-then-is-cell
@@ -48,7 +48,7 @@ returns-then-is-cell c =
     let node = c .in-Some .node in
     let l = listed-some b h (at .depth) (at .place .0) (c .in-Continue-node .field-0) (c .in-Continue-node .ensures tt .rest) node (c .in-Some .is) in
     let e = used-turn (c .args .phandle) (c .loop-left .left) (nodes-from b h (at .depth) (at .place .0)) (entry b h node) (nodes-from b h (node .body .depth) (node .body .place .0))
-        (property-seen (Ok (c .in-Continue-phandle .field-0))) (omega arith) l (c .in-Continue-phandle .ensures tt) in
+    (property-seen (Ok (c .in-Continue-phandle .field-0))) (omega arith) l (c .in-Continue-phandle .ensures tt) in
     sym (e ∙ ap (λ t. cond t (Ok true) (used (c .args .phandle) (take (c .loop-left .left - 1) (nodes-from b h (node .body .depth) (node .body .place .0))))) (sym (c .if-is-cell .ensures tt)))
     ∙ c .loop-left .inv
 
@@ -60,6 +60,6 @@ loop-left-again c =
     let node = c .in-Some .node in
     let l = listed-some b h (at .depth) (at .place .0) (c .in-Continue-node .field-0) (c .in-Continue-node .ensures tt .rest) node (c .in-Some .is) in
     let e = used-turn (c .args .phandle) (c .loop-left .left) (nodes-from b h (at .depth) (at .place .0)) (entry b h node) (nodes-from b h (node .body .depth) (node .body .place .0))
-        (property-seen (Ok (c .in-Continue-phandle .field-0))) (omega arith) l (c .in-Continue-phandle .ensures tt) in
+    (property-seen (Ok (c .in-Continue-phandle .field-0))) (omega arith) l (c .in-Continue-phandle .ensures tt) in
     sym (e ∙ ap (λ t. cond t (Ok true) (used (c .args .phandle) (take (c .loop-left .left - 1) (nodes-from b h (node .body .depth) (node .body .place .0))))) (sym (c .if-is-cell .ensures tt)))
     ∙ c .loop-left .inv

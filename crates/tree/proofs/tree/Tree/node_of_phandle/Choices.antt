@@ -8,7 +8,7 @@ use Rattle.tree.proofs.tree.Tree.node_of_phandle.Given as given
 abbrev pub Inv-loop-node : given.InvT-loop-node
 Inv-loop-node l =
     with-phandle (l .phandle) (nodes-from (l .self .blob .bytes .now) (l .self .blob .header) (l .at .depth) (l .at .place .0))
-      ≡ with-phandle (l .phandle) (all-nodes (l .self .blob .bytes .now) (l .self .blob .header))
+    ≡ with-phandle (l .phandle) (all-nodes (l .self .blob .bytes .now) (l .self .blob .header))
 
 abbrev pub μ-loop-node : given.MeasureT-loop-node
 μ-loop-node l = ending (l .self .blob .header) - l .at .place .0

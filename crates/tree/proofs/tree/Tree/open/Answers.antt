@@ -10,5 +10,5 @@ returns c =
     record {
       is = c .read .ensures;
       exactly = opens-exactly b (tree-seen (c .read .result)) (c .read .ensures);
-      unread = λ d s. c .read .ensures ∙ open-same b d (blob-same b d s)
+      unread = λ d s. c .read .ensures ∙ open-same b d (blob-same b d s);
     }

@@ -8,8 +8,8 @@ use Rattle.tree.proofs.tree.Tree.parent.Given as given
 abbrev pub Inv-loop-next : given.InvT-loop-next
 Inv-loop-next l =
     parent-from (l .node .place .0) (l .node .body .depth) (entry-of (l .self .blob .bytes .now) (l .self .blob .header) (l .above))
-        (nodes-from (l .self .blob .bytes .now) (l .self .blob .header) (l .at .depth) (l .at .place .0))
-      ≡ parent-of (l .node .place .0) (l .node .body .depth) (all-nodes (l .self .blob .bytes .now) (l .self .blob .header))
+    (nodes-from (l .self .blob .bytes .now) (l .self .blob .header) (l .at .depth) (l .at .place .0))
+    ≡ parent-of (l .node .place .0) (l .node .body .depth) (all-nodes (l .self .blob .bytes .now) (l .self .blob .header))
 
 abbrev pub μ-loop-next : given.MeasureT-loop-next
 μ-loop-next l = ending (l .self .blob .header) - l .at .place .0

@@ -28,9 +28,12 @@ loop-node-again c =
     let d : drop count all ≡ listed (entry b h node) ∷ later = sym (c .loop-node .inv .2) ∙ l in
     let goes = subst (λ (o : Option Node). Goes-on h (at .place .0) (Ok o)) (c .in-Some .is) (c .in-Continue-node .ensures tt .goes) in
     let few : c .if-branch .found ≤ count + 1 =
-        elim (c .if-branch .came) [ then-branch w ↦ omega (arith, w .found-is) | else-branch w ↦ omega (arith, w .found-is) ] in
+    elim (c .if-branch .came) [ then-branch w ↦ omega (arith, w .found-is) | else-branch w ↦ omega (arith, w .found-is) ] in
     let sum : c .if-branch .found ≡ cond has (found + 1) found =
-        elim (c .if-branch .came) [ then-branch w ↦ w .found-is ∙ ap (λ t. cond t (found + 1) found) (sym (w .if-branch .taken)) | else-branch w ↦ w .found-is ∙ ap (λ t. cond t (found + 1) found) (sym (w .if-branch .left)) ] in
-    let turn = phandles-turn found count all (entry b h node) later has d (c .in-Continue-check-phandle .ensures tt) in
-    (few, omega (arith, goes .0), sym (list-more all count (listed (entry b h node)) later d .1),
-     ap (λ n. phandles-from n (take (count + 1) all) later) sum ∙ sym turn ∙ ap (λ z. phandles-from found (take count all) z) (sym l) ∙ c .loop-node .inv .3)
+    elim (c .if-branch .came) [ then-branch w ↦ w .found-is ∙ ap (λ t. cond t (found + 1) found) (sym (w .if-branch .taken)) | else-branch w ↦ w .found-is ∙ ap (λ t. cond t (found + 1) found) (sym (w .if-branch .left)) ] in
+    let turn = phandles-turn found count all (entry b h node) later has d (c .in-Continue-check-phandle .ensures tt) in (
+      few,
+      omega (arith, goes .0),
+      sym (list-more all count (listed (entry b h node)) later d .1),
+      ap (λ n. phandles-from n (take (count + 1) all) later) sum ∙ sym turn ∙ ap (λ z. phandles-from found (take count all) z) (sym l) ∙ c .loop-node .inv .3,
+    )

@@ -12,10 +12,10 @@ Inv-loop-node l =
     (l .found ≤ l .count)
     × (l .count ≤ l .at .place .0)
     × (nodes-from (l .self .blob .bytes .now) (l .self .blob .header) (l .at .depth) (l .at .place .0)
-        ≡ drop (l .count) (all-nodes (l .self .blob .bytes .now) (l .self .blob .header)))
+    ≡ drop (l .count) (all-nodes (l .self .blob .bytes .now) (l .self .blob .header)))
     × (phandles-from (l .found) (take (l .count) (all-nodes (l .self .blob .bytes .now) (l .self .blob .header)))
-          (nodes-from (l .self .blob .bytes .now) (l .self .blob .header) (l .at .depth) (l .at .place .0))
-        ≡ phandles (all-nodes (l .self .blob .bytes .now) (l .self .blob .header)))
+    (nodes-from (l .self .blob .bytes .now) (l .self .blob .header) (l .at .depth) (l .at .place .0))
+    ≡ phandles (all-nodes (l .self .blob .bytes .now) (l .self .blob .header)))
 
 abbrev pub μ-loop-node : given.MeasureT-loop-node
 μ-loop-node l = ending (l .self .blob .header) - l .at .place .0

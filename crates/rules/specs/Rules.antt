@@ -10,11 +10,11 @@ use Rattle.fdt.specs.declared.header.Header.{Header}
 use Rattle.fdt.specs.declared.fault.TokenFault.{TokenFault}
 use Rattle.fdt.specs.declared.fault.TokenFault.the-variants.{Past, Rule, Depth}
 use Rattle.fdt.specs.Cells.{Piece}
-use Rattle.fdt.specs.Tokens.{Word, opens, property, closes, nothing, ends, at}
-use Rattle.fdt.specs.Items.{Item, item, bad}
-use Rattle.tree.specs.declared.rules.Walk.{Walk}
-use Rattle.tree.specs.declared.rules.Stage.{Stage}
-use Rattle.tree.specs.declared.rules.Stage.the-variants.{Start, Properties, Subnodes, Finished}
+use Rattle.fdt.specs.Tokens.{Word, opens, property, closes, nothing, ends, at, ending}
+use Rattle.fdt.specs.Items.{Item, item, bad, all-items}
+use Rattle.rules.specs.declared.walk.Walk.{Walk}
+use Rattle.rules.specs.declared.walk.Stage.{Stage}
+use Rattle.rules.specs.declared.walk.Stage.the-variants.{Start, Properties, Subnodes, Finished}
 
 abbrev pub walk : ℕ → ℕ → Stage → Walk
 walk place depth stage = record { cursor = record { place = at place; depth = depth }; stage = stage }
@@ -75,3 +75,7 @@ checked end (Ok w) (item i closes next ∷ ts) = checked end (admitted end w clo
 checked end (Ok w) (item i nothing next ∷ ts) = checked end (admitted end w nothing next) ts
 checked end (Ok w) (item i ends next ∷ []) = admitted end w ends next
 checked end (Ok w) (item i ends next ∷ t ∷ ts) = broken-rule w
+
+-- the walk over all tokens
+abbrev pub walked : List ℕ → Header → Result Walk TokenFault
+walked b h = checked (ending h) (Ok (beginning h)) (all-items b h)

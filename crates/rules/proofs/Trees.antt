@@ -9,16 +9,17 @@ use lib.ListN.{length}
 use Rattle.std.proofs.shelf.Tests.{eqb-true, leb-false, lt-leb, eq-eqb, ne-eqb}
 use Rattle.std.specs.declared.result.Result.{Result}
 use Rattle.std.specs.declared.result.Result.the-variants.{Ok, Err}
+use Rattle.fdt.specs.declared.header.Header.{Header}
 use Rattle.fdt.specs.declared.fault.TokenFault.{TokenFault}
 use Rattle.fdt.specs.declared.fault.TokenFault.the-variants.{Rule, Depth}
 use Rattle.fdt.specs.Cells.{Piece}
-use Rattle.fdt.specs.Tokens.{Word, opens, property, closes, nothing, ends, at}
-use Rattle.fdt.specs.Items.{Item, item, bad}
-use Rattle.tree.specs.declared.rules.Walk.{Walk}
-use Rattle.tree.specs.declared.rules.Stage.{Stage}
-use Rattle.tree.specs.declared.rules.Stage.the-variants.{Start, Properties as Owning, Subnodes, Finished}
-use Rattle.tree.specs.Rules.{walk, admitted, checked}
-use Rattle.tree.specs.Trees.{Next, here, past, Properties, no-more, one-more, Node, node, Nodes, no-node, one-node, OneTree, tree}
+use Rattle.fdt.specs.Tokens.{Word, opens, property, closes, nothing, ends, at, ending}
+use Rattle.fdt.specs.Items.{Item, item, bad, all-items}
+use Rattle.rules.specs.declared.walk.Walk.{Walk}
+use Rattle.rules.specs.declared.walk.Stage.{Stage}
+use Rattle.rules.specs.declared.walk.Stage.the-variants.{Start, Properties as Owning, Subnodes, Finished}
+use Rattle.rules.specs.Rules.{walk, admitted, checked, walked}
+use Rattle.rules.specs.Trees.{Next, here, past, Properties, no-more, one-more, Node, node, Nodes, no-node, one-node, OneTree, tree, Accepts}
 
 pub no-result : {P X F : Type 0} {f : F} {x : X} → _≡_ {A = Result X F} (Err f) (Ok x) → P
 no-result p = absurd (let z : _≡_ {A = ℕ} 0 1 = cc in omega arith)
@@ -85,8 +86,8 @@ module _ (end : ℕ) where
   props-reach d ts us (no-more ts2) p = (p, refl)
   props-reach d ts vs (one-more ts2 us vs2 name value n x y) p =
       both (inside true d) ts (inside true d) us (inside true d) vs
-        (by-next (inside true d) (inside true d) ts (property name value) n us x (λ p i vs. refl))
-        (props-reach d us vs y) p
+      (by-next (inside true d) (inside true d) ts (property name value) n us x (λ p i vs. refl))
+      (props-reach d us vs y) p
 
   closes-reach : (b : Bool) (d : ℕ) (ts : List Item) (n : ℕ) (us : List Item) → Next ts closes n us → Reaches (inside b d) ts (up d) us
   closes-reach b d ts n us x = by-next (inside b d) (up d) ts closes n us x (λ p i vs. ap (λ r. checked end r vs) (close-in p b d n))
@@ -96,14 +97,14 @@ module _ (end : ℕ) where
       → Reaches (inside true d) us (up d) rest
   body-reaches d us vs ws rest m x y z =
       both (inside true d) us (inside true d) vs (up d) rest (props-reach d us vs x)
-        (both (inside true d) vs (inside (y .0) d) ws (up d) rest (y .1) (closes-reach (y .0) d ws m rest z))
+      (both (inside true d) vs (inside (y .0) d) ws (up d) rest (y .1) (closes-reach (y .0) d ws m rest z))
 
   mutual
     node-reaches : (d : ℕ) (name : Piece) (ts rest : List Item) → Node (suc (suc d)) name ts rest → (b : Bool) → Reaches (inside b d) ts (inside false d) rest
     node-reaches d name ts rest (node depth name2 n m ts2 us vs ws rest2 low o x y z) b =
         both (inside b d) ts (inside true (suc d)) us (inside false d) rest
-          (by-next (inside b d) (inside true (suc d)) ts (opens name) n us o (λ p i vs. ap (λ r. checked end r vs) (open-in p b d name n low)))
-          (body-reaches (suc d) us vs ws rest m x (nodes-reach (suc d) vs ws y true) z)
+        (by-next (inside b d) (inside true (suc d)) ts (opens name) n us o (λ p i vs. ap (λ r. checked end r vs) (open-in p b d name n low)))
+        (body-reaches (suc d) us vs ws rest m x (nodes-reach (suc d) vs ws y true) z)
 
     nodes-reach : (d : ℕ) (ts rest : List Item) → Nodes (suc (suc d)) ts rest → (b : Bool) → (c : Bool) × Reaches (inside b d) ts (inside c d) rest
     nodes-reach d ts rest (no-node depth ts2) b = (b, λ p. (p, refl))
@@ -115,8 +116,8 @@ module _ (end : ℕ) where
   root-reaches : (name : Piece) (ts rest : List Item) → name .bytes ≡ [] → Node 1 name ts rest → Reaches start ts done rest
   root-reaches name ts rest e (node depth name2 n m ts2 us vs ws rest2 low o x y z) =
       both start ts (inside true 0) us done rest
-        (by-next start (inside true 0) ts (opens name) n us o (λ p i vs. ap (λ r. checked end r vs) (open-root p name n e)))
-        (body-reaches 0 us vs ws rest m x (nodes-reach 0 vs ws y true) z)
+      (by-next start (inside true 0) ts (opens name) n us o (λ p i vs. ap (λ r. checked end r vs) (open-root p name n e)))
+      (body-reaches 0 us vs ws rest m x (nodes-reach 0 vs ws y true) z)
 
   end-accepted : (p : ℕ) (ts : List Item) (n : ℕ) → n ≡ end → Next ts ends n [] → (w : Walk) × (checked end (Ok (stand p done)) ts ≡ Ok w)
   end-accepted p ts n e (here i w n2 ts2) = (walk n 0 Finished, rw (eq-eqb n end e))
@@ -195,7 +196,7 @@ module _ (end : ℕ) where
     opened-node : (depth d : ℕ) (name : Piece) (rest : List Item) → depth ≤ 16 → suc depth ≡ suc (suc d) → Outer d ts rest → Node depth name (item i (opens name) n ∷ ts) rest
     opened-node depth d name rest low e o =
         node depth name n (o .inner .n) (item i (opens name) n ∷ ts) ts (o .mid) (o .inner .last) rest low (here i (opens name) n ts) (o .props)
-          (subst (λ (k : ℕ). Nodes k (o .mid) (o .inner .last)) (sym e) (o .inner .nodes)) (o .inner .close)
+        (subst (λ (k : ℕ). Nodes k (o .mid) (o .inner .last)) (sym e) (o .inner .nodes)) (o .inner .close)
 
     root-opened : (name : Piece) (t : Bool) → eqb (length (name .bytes)) 0 ≡ t
         → checked end (cond t (Ok (stand n (inside true 0))) (Err (Rule (at p)))) ts ≡ Ok v
@@ -205,7 +206,7 @@ module _ (end : ℕ) where
     root-opened name true et e ih =
         let r = ih e in
         tree name (item i (opens name) n ∷ ts) (r .0) (empty-bytes (name .bytes) (eqb-true (length (name .bytes)) 0 et))
-          (opened-node 1 0 name (r .0) (omega arith) refl (r .1 .0)) (r .1 .1)
+        (opened-node 1 0 name (r .0) (omega arith) refl (r .1 .0)) (r .1 .1)
 
     sub-opened : (b : Bool) (d : ℕ) (name : Piece) (t : Bool) → leb 16 (suc d) ≡ t
         → checked end (cond t (Err (Depth (at p))) (Ok (walk n (suc d + 1) Owning))) ts ≡ Ok v
@@ -219,15 +220,15 @@ module _ (end : ℕ) where
         let u = r .1 .1 in
         let x = opened-node (suc (suc d)) (suc d) name (r .0) (omega arith) refl (r .1 .0) in
         settle b d (item i (opens name) n ∷ ts) (u .0)
-          (record { last = u .1 .0 .last; n = u .1 .0 .n; nodes = one-node (suc (suc d)) name (item i (opens name) n ∷ ts) (r .0) (u .1 .0 .last) x (u .1 .0 .nodes); close = u .1 .0 .close })
-          (u .1 .1)
+        (record { last = u .1 .0 .last; n = u .1 .0 .n; nodes = one-node (suc (suc d)) name (item i (opens name) n ∷ ts) (r .0) (u .1 .0 .last) x (u .1 .0 .nodes); close = u .1 .0 .close })
+        (u .1 .1)
 
     closed-node : (b : Bool) (d : ℕ) → checked end (admitted end (stand p (inside b d)) closes n) ts ≡ Ok v
         → (checked end (Ok (stand n (up d))) ts ≡ Ok v → Expect (up d) ts) → Expect (inside b d) (item i closes n ∷ ts)
     closed-node b d e ih =
         settle b d (item i closes n ∷ ts) ts
-          (record { last = item i closes n ∷ ts; n = n; nodes = no-node (suc (suc d)) (item i closes n ∷ ts); close = here i closes n ts })
-          (above d ts (ih (sym (ap (λ r. checked end r ts) (close-in p b d n)) ∙ e)))
+        (record { last = item i closes n ∷ ts; n = n; nodes = no-node (suc (suc d)) (item i closes n ∷ ts); close = here i closes n ts })
+        (above d ts (ih (sym (ap (λ r. checked end r ts) (close-in p b d n)) ∙ e)))
 
     owned-here : (d : ℕ) (name value : Piece) → Expect (inside true d) ts → Expect (inside true d) (item i (property name value) n ∷ ts)
     owned-here d name value x =
@@ -262,3 +263,9 @@ module _ (end : ℕ) where
 
   pub accepted-tree : (p : ℕ) (ts : List Item) (v : Walk) → checked end (Ok (walk p 0 Start)) ts ≡ Ok v → OneTree end ts
   accepted-tree p ts v e = accepted ts start p v e
+
+pub accepts : (b : List ℕ) (h : Header) (r : Result Walk TokenFault) → r ≡ walked b h → Accepts b h r
+accepts b h r e = record {
+  only = λ p. accepted-tree (ending h) (h .structure) (all-items b h) (p .0) (sym e ∙ p .1);
+  every = λ t. let p = tree-accepted (ending h) (h .structure) (all-items b h) t in (p .0, e ∙ p .1);
+}

@@ -1,9 +1,8 @@
 ghost use mathlib.Core.Path.{_≡_};
-ghost use Rattle.std.specs.declared.result.Result.the-variants.{Ok};
 ghost use Rattle.std.specs.Vec.{made};
-ghost use Rattle.fdt.specs.Items.{all-items};
-ghost use Rattle.fdt.specs.Tokens.{ending, word};
-ghost use Rattle.tree.specs.Rules.{admitted, beginning, checked, walk};
+ghost use Rattle.fdt.specs.Tokens.{word};
+ghost use Rattle.rules.specs.Rules.{admitted, walk, walked};
+ghost use Rattle.rules.specs.Trees.{Accepts};
 use fdt::blob::Blob;
 use fdt::cursor::Cursor;
 use fdt::fault::TokenFault;
@@ -31,7 +30,10 @@ impl Walk {
     fn past(next: Place, depth: usize, stage: Stage) -> Walk
         ensures { λ r. ⌜ r ≡ walk (next .0) depth stage ⌝ }
     {
-        Walk { cursor: Cursor { place: next, depth }, stage }
+        Walk {
+            cursor: Cursor { place: next, depth },
+            stage,
+        }
     }
 
     // The walk past a token, where the structure block ends at `end`; 6 for a token that may not stand here, 7 for a
@@ -87,7 +89,14 @@ impl Walk {
 
 // Walks all tokens of the structure block: 5, 6 or 7 at the first token that is refused.
 pub fn walk_tokens(blob: &Blob<'_>) -> Result<Walk, TokenFault>
-    ensures { λ r. ⌜ r ≡ checked (ending (now (blob .entry) .header)) (Ok (beginning (now (blob .entry) .header))) (all-items (now (blob .entry) .bytes .now) (now (blob .entry) .header)) ⌝ }
+    ensures is { λ r. ⌜ r ≡ walked (now (blob .entry) .bytes .now) (now (blob .entry) .header) ⌝ }
+    ensures exactly { λ r. ⌜ Accepts (now (blob .entry) .bytes .now) (now (blob .entry) .header) r ⌝ }
+{
+    check_tokens(blob)
+}
+
+fn check_tokens(blob: &Blob<'_>) -> Result<Walk, TokenFault>
+    ensures { λ r. ⌜ r ≡ walked (now (blob .entry) .bytes .now) (now (blob .entry) .header) ⌝ }
 {
     let end = blob.end();
     let mut at = Walk::past(blob.start(), 0, Stage::Start);

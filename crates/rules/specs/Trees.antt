@@ -2,9 +2,15 @@
 use mathlib.Core.Path.{_≡_}
 use mathlib.Core.List.{List, [], _∷_}
 use Prim.Native.Nat.{ℕ, suc, _≤_}
+use Rattle.std.specs.declared.result.Result.{Result}
+use Rattle.std.specs.declared.result.Result.the-variants.{Ok}
+use Rattle.search.specs.Exactly.{Exactly}
+use Rattle.fdt.specs.declared.header.Header.{Header}
+use Rattle.fdt.specs.declared.fault.TokenFault.{TokenFault}
 use Rattle.fdt.specs.Cells.{Piece}
-use Rattle.fdt.specs.Tokens.{Word, opens, property, closes, nothing, ends}
-use Rattle.fdt.specs.Items.{Item, item}
+use Rattle.fdt.specs.Tokens.{Word, opens, property, closes, nothing, ends, ending}
+use Rattle.fdt.specs.Items.{Item, item, all-items}
+use Rattle.rules.specs.declared.walk.Walk.{Walk}
 
 -- The next token that is no no-op, the place after it, and the tokens that follow.
 pub data Next : List Item → Word → ℕ → List Item → Type 0 where
@@ -32,3 +38,7 @@ mutual
 -- One root, of depth 1 and with an empty name, then the end token, which is the last and ends where the block ends.
 pub data OneTree (end : ℕ) : List Item → Type 0 where
   tree : (root : Piece) (ts us : List Item) → root .bytes ≡ [] → Node 1 root ts us → Next us ends end [] → OneTree end ts
+
+-- A walk is accepted exactly if the tokens are one tree.
+abbrev pub Accepts : List ℕ → Header → Result Walk TokenFault → Type 0
+Accepts b h r = Exactly ((w : Walk) × (r ≡ Ok w)) (OneTree (ending h) (all-items b h))
