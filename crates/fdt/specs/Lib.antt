@@ -3,6 +3,7 @@ pub mod Cells
 pub mod Headers
 pub mod Items
 pub mod Properties
+pub mod Reads
 pub mod Reports
 pub mod Stands
 pub mod Tokens

@@ -4,9 +4,10 @@ ghost use Prim.Native.Nat.{ℕ, _+_, _<_, _≤_, _^_};
 ghost use lib.ListN.{length};
 ghost use Rattle.std.specs.Vec.{made};
 ghost use Rattle.fdt.specs.Blobs.{Same-front, blob-of, blob-seen};
-ghost use Rattle.fdt.specs.Items.{items, more};
+ghost use Rattle.fdt.specs.Items.{more};
+ghost use Rattle.fdt.specs.Reads.{token-of, tokens-of};
 ghost use Rattle.fdt.specs.Stands.{Token-stands};
-ghost use Rattle.fdt.specs.Tokens.{align, ending, open-at, property-at, token-at, step-seen};
+ghost use Rattle.fdt.specs.Tokens.{align, ending, open-at, property-at, step-seen};
 use super::cell::cell_at;
 use super::cell::name_at;
 use super::cell::part_at;
@@ -53,17 +54,17 @@ impl<'a> Blob<'a> {
 
     // The token at a place, and the place of the next one; 5 with this place where no token can be read.
     pub fn token_at(&self, place: Place) -> Result<Step<'a>, TokenFault>
-        ensures is { λ r. ⌜ step-seen r ≡ token-at (now (self .entry) .bytes .now) (now (self .entry) .header) (place .0) ⌝ }
+        ensures is { λ r. ⌜ step-seen r ≡ token-of (now (self .entry)) (place .0) ⌝ }
         ensures stands { λ r. ⌜ Token-stands (now (self .entry) .bytes .now) (step-seen r) ⌝ }
         ensures goes { λ r. ⌜ made r (λ s. (place .0 + 4 ≤ s .next .0) × (place .0 + 4 ≤ ending (now (self .entry) .header))) ⌝ }
-        ensures rest { λ r. ⌜ items (now (self .entry) .bytes .now) (now (self .entry) .header) (place .0) ≡ more (items (now (self .entry) .bytes .now) (now (self .entry) .header)) (place .0) (step-seen r) ⌝ }
+        ensures rest { λ r. ⌜ tokens-of (now (self .entry)) (place .0) ≡ more (tokens-of (now (self .entry))) (place .0) (step-seen r) ⌝ }
     {
         self.read_token(place)
     }
 
     // The token that begins with the cell at a place, which is a multiple of 4 in the structure block.
     fn read_token(&self, place: Place) -> Result<Step<'a>, TokenFault>
-        ensures { λ r. ⌜ step-seen r ≡ token-at (now (self .entry) .bytes .now) (now (self .entry) .header) (place .0) ⌝ }
+        ensures { λ r. ⌜ step-seen r ≡ token-of (now (self .entry)) (place .0) ⌝ }
     {
         let i = place.0;
         let end = self.end();

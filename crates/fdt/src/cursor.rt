@@ -1,6 +1,6 @@
 ghost use mathlib.Core.Path.{_≡_};
 ghost use Rattle.std.specs.shelf.Text.{sameBytes};
-ghost use Rattle.fdt.specs.Items.{items};
+ghost use Rattle.fdt.specs.Reads.{tokens-of};
 ghost use Rattle.fdt.specs.Properties.{Property-goes, first-property, property-seen, sought};
 use super::blob::Blob;
 use super::fault::TokenFault;
@@ -52,7 +52,7 @@ fn same(a: &[u8], b: &[u8]) -> bool
 impl<'a> Blob<'a> {
     // The first property from a place on, before the next node, close or end; 5 where a token cannot be read.
     pub fn property_from(&self, place: Place) -> Result<Option<Property<'a>>, TokenFault>
-        ensures is { λ r. ⌜ property-seen r ≡ first-property (items (now (self .entry) .bytes .now) (now (self .entry) .header) (place .0)) ⌝ }
+        ensures is { λ r. ⌜ property-seen r ≡ first-property (tokens-of (now (self .entry)) (place .0)) ⌝ }
         ensures goes { λ r. ⌜ Property-goes (now (self .entry) .header) (place .0) r ⌝ }
     {
         let mut at = place;
@@ -81,7 +81,7 @@ impl<'a> Blob<'a> {
         name: &[u8],
     ) -> Result<Option<Property<'a>>, TokenFault>
         ensures back { λ r. ⌜ now (cursor .exit) ≡ now (cursor .entry) ⌝ }
-        ensures finds { λ r. ⌜ property-seen r ≡ sought (now (name .entry)) (items (now (self .entry) .bytes .now) (now (self .entry) .header) (now (cursor .entry) .place .0)) ⌝ }
+        ensures finds { λ r. ⌜ property-seen r ≡ sought (now (name .entry)) (tokens-of (now (self .entry)) (now (cursor .entry) .place .0)) ⌝ }
     {
         let saved = *cursor;
         let guard = Rewind { cursor, saved };

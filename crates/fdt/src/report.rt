@@ -1,5 +1,5 @@
 ghost use mathlib.Core.Path.{_≡_};
-ghost use Rattle.fdt.specs.Reports.{header-report, token-report};
+ghost use Rattle.fdt.specs.Reports.{header-report, report, token-report};
 use super::fault::HeaderFault;
 use super::fault::TokenFault;
 use super::part::Place;
@@ -35,6 +35,18 @@ impl HeaderFault {
     }
 }
 
+// A fault of layer 2, which has the token's place.
+fn at_token(number: u8, node: Place) -> Report
+    ensures { λ r. ⌜ r ≡ report 2 number (node .0) 0 ⌝ }
+{
+    Report {
+        layer: 2,
+        number,
+        node,
+        property: Place(0),
+    }
+}
+
 impl TokenFault {
     // Layer 2, with the token's place; or the header's report.
     pub fn report(self) -> Report
@@ -42,24 +54,9 @@ impl TokenFault {
     {
         match self {
             TokenFault::Header(f) => f.report(),
-            TokenFault::Past(node) => Report {
-                layer: 2,
-                number: 5,
-                node,
-                property: Place(0),
-            },
-            TokenFault::Rule(node) => Report {
-                layer: 2,
-                number: 6,
-                node,
-                property: Place(0),
-            },
-            TokenFault::Depth(node) => Report {
-                layer: 2,
-                number: 7,
-                node,
-                property: Place(0),
-            },
+            TokenFault::Past(node) => at_token(5, node),
+            TokenFault::Rule(node) => at_token(6, node),
+            TokenFault::Depth(node) => at_token(7, node),
         }
     }
 }

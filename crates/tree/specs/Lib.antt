@@ -1,4 +1,5 @@
 pub mod Nodes
 pub mod Opening
 pub mod Phandles
+pub mod Reads
 pub mod Reports

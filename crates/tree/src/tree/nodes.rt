@@ -1,7 +1,7 @@
 ghost use mathlib.Core.Path.{_≡_};
-ghost use Rattle.fdt.specs.Items.{items};
 ghost use Rattle.fdt.specs.Properties.{Property-goes, property-seen, first-property, sought};
-ghost use Rattle.tree.specs.Nodes.{Goes-on, all-nodes, first-node, listed-by, node-at, node-seen, nodes-from, parent-of};
+ghost use Rattle.tree.specs.Nodes.{Goes-on, first-node, listed-by, node-at, parent-of};
+ghost use Rattle.tree.specs.Reads.{node-in, nodes-in, nodes-of, tokens-in};
 use super::Tree;
 use crate::node::Node;
 use fdt::cursor::Cursor;
@@ -23,8 +23,8 @@ impl<'a> Tree<'a> {
 
     // The first node from a cursor on, in blob order, at any depth.
     pub fn next_node(&self, cursor: Cursor) -> Result<Option<Node<'a>>, TokenFault>
-        ensures is { λ r. ⌜ node-seen (now (self .entry) .blob .bytes .now) (now (self .entry) .blob .header) r ≡ first-node (nodes-from (now (self .entry) .blob .bytes .now) (now (self .entry) .blob .header) (cursor .depth) (cursor .place .0)) ⌝ }
-        ensures rest { λ r. ⌜ nodes-from (now (self .entry) .blob .bytes .now) (now (self .entry) .blob .header) (cursor .depth) (cursor .place .0) ≡ listed-by (λ e. nodes-from (now (self .entry) .blob .bytes .now) (now (self .entry) .blob .header) (e .depth) (e .body)) (node-seen (now (self .entry) .blob .bytes .now) (now (self .entry) .blob .header) r) ⌝ }
+        ensures is { λ r. ⌜ node-in (now (self .entry)) r ≡ first-node (nodes-in (now (self .entry)) (cursor .depth) (cursor .place .0)) ⌝ }
+        ensures rest { λ r. ⌜ nodes-in (now (self .entry)) (cursor .depth) (cursor .place .0) ≡ listed-by (λ e. nodes-in (now (self .entry)) (e .depth) (e .body)) (node-in (now (self .entry)) r) ⌝ }
         ensures goes { λ r. ⌜ Goes-on (now (self .entry) .blob .header) (cursor .place .0) r ⌝ }
     {
         let mut at = cursor;
@@ -60,7 +60,7 @@ impl<'a> Tree<'a> {
 
     // The node whose open token stands at a place.
     pub fn node_at(&self, place: Place) -> Result<Option<Node<'a>>, TokenFault>
-        ensures { λ r. ⌜ node-seen (now (self .entry) .blob .bytes .now) (now (self .entry) .blob .header) r ≡ node-at (place .0) (all-nodes (now (self .entry) .blob .bytes .now) (now (self .entry) .blob .header)) ⌝ }
+        ensures { λ r. ⌜ node-in (now (self .entry)) r ≡ node-at (place .0) (nodes-of (now (self .entry))) ⌝ }
     {
         let mut at = self.start();
         loop {
@@ -76,7 +76,7 @@ impl<'a> Tree<'a> {
 
     // The node that a node is a subnode of; none for the root.
     pub fn parent(&self, node: &Node<'a>) -> Result<Option<Node<'a>>, TokenFault>
-        ensures { λ r. ⌜ node-seen (now (self .entry) .blob .bytes .now) (now (self .entry) .blob .header) r ≡ parent-of (now (node .entry) .place .0) (now (node .entry) .body .depth) (all-nodes (now (self .entry) .blob .bytes .now) (now (self .entry) .blob .header)) ⌝ }
+        ensures { λ r. ⌜ node-in (now (self .entry)) r ≡ parent-of (now (node .entry) .place .0) (now (node .entry) .body .depth) (nodes-of (now (self .entry))) ⌝ }
     {
         let mut above = None;
         let mut at = self.start();
@@ -97,14 +97,14 @@ impl<'a> Tree<'a> {
     // The first property from a place on, of the node that the place is in.
     pub fn property_from(&self, place: Place) -> Result<Option<Property<'a>>, TokenFault>
         ensures goes { λ r. ⌜ Property-goes (now (self .entry) .blob .header) (place .0) r ⌝ }
-        ensures is { λ r. ⌜ property-seen r ≡ first-property (items (now (self .entry) .blob .bytes .now) (now (self .entry) .blob .header) (place .0)) ⌝ }
+        ensures is { λ r. ⌜ property-seen r ≡ first-property (tokens-in (now (self .entry)) (place .0)) ⌝ }
     {
         self.blob.property_from(place)
     }
 
     // The first property of this name of a node.
     pub fn property(&self, node: &Node<'a>, name: &[u8]) -> Result<Option<Property<'a>>, TokenFault>
-        ensures { λ r. ⌜ property-seen r ≡ sought (now (name .entry)) (items (now (self .entry) .blob .bytes .now) (now (self .entry) .blob .header) (now (node .entry) .body .place .0)) ⌝ }
+        ensures { λ r. ⌜ property-seen r ≡ sought (now (name .entry)) (tokens-in (now (self .entry)) (now (node .entry) .body .place .0)) ⌝ }
     {
         let mut cursor = node.body;
         self.blob.look_ahead(&mut cursor, name)

@@ -1,7 +1,7 @@
 ghost use mathlib.Core.Path.{_≡_};
 ghost use lib.ListN.{take};
 ghost use Rattle.fdt.specs.Properties.{option-seen, owned, property-seen};
-ghost use Rattle.tree.specs.Nodes.{all-nodes, entry, node-seen};
+ghost use Rattle.tree.specs.Reads.{entry-in, node-in, nodes-of};
 ghost use Rattle.tree.specs.Phandles.{is-cell, one-cell, phandle-checked, phandle-of, phandles, used, with-phandle};
 use super::Tree;
 use crate::fault::At;
@@ -43,14 +43,14 @@ fn is_cell(property: Option<Property<'_>>, wanted: u32) -> bool
 impl<'a> Tree<'a> {
     // The first property `phandle` of a node.
     fn phandle(&self, node: &Node<'a>) -> Result<Option<Property<'a>>, TokenFault>
-        ensures { λ r. ⌜ property-seen r ≡ phandle-of (entry (now (self .entry) .blob .bytes .now) (now (self .entry) .blob .header) (now (node .entry))) ⌝ }
+        ensures { λ r. ⌜ property-seen r ≡ phandle-of (entry-in (now (self .entry)) (now (node .entry))) ⌝ }
     {
         self.property(node, b"phandle")
     }
 
     // The node with this phandle, the first in blob order.
     pub fn node_of_phandle(&self, phandle: u32) -> Result<Option<Node<'a>>, TokenFault>
-        ensures { λ r. ⌜ node-seen (now (self .entry) .blob .bytes .now) (now (self .entry) .blob .header) r ≡ with-phandle phandle (all-nodes (now (self .entry) .blob .bytes .now) (now (self .entry) .blob .header)) ⌝ }
+        ensures { λ r. ⌜ node-in (now (self .entry)) r ≡ with-phandle phandle (nodes-of (now (self .entry))) ⌝ }
     {
         let mut at = self.start();
         loop {
@@ -66,7 +66,7 @@ impl<'a> Tree<'a> {
 
     // Whether one of the first `count` nodes has this phandle.
     fn is_used(&self, phandle: u32, count: usize) -> Result<bool, TokenFault>
-        ensures { λ r. ⌜ r ≡ used phandle (take count (all-nodes (now (self .entry) .blob .bytes .now) (now (self .entry) .blob .header))) ⌝ }
+        ensures { λ r. ⌜ r ≡ used phandle (take count (nodes-of (now (self .entry)))) ⌝ }
     {
         let mut at = self.start();
         let mut left = count;
@@ -86,7 +86,7 @@ impl<'a> Tree<'a> {
     // Whether the node after the first `count` has a phandle: 8 where it is not one cell, 9 where it is 0, 0xffffffff or
     // used by a node before.
     fn check_phandle(&self, node: &Node<'a>, count: usize) -> Result<bool, RouteFault>
-        ensures { λ r. ⌜ r ≡ phandle-checked (take count (all-nodes (now (self .entry) .blob .bytes .now) (now (self .entry) .blob .header))) (entry (now (self .entry) .blob .bytes .now) (now (self .entry) .blob .header) (now (node .entry))) ⌝ }
+        ensures { λ r. ⌜ r ≡ phandle-checked (take count (nodes-of (now (self .entry)))) (entry-in (now (self .entry)) (now (node .entry))) ⌝ }
     {
         let Some(property) = self.phandle(node)? else {
             return Ok(false);
@@ -107,7 +107,7 @@ impl<'a> Tree<'a> {
 
     // How many nodes have a phandle; in blob order the first that is refused, 8 or 9.
     pub fn phandles(&self) -> Result<usize, RouteFault>
-        ensures { λ r. ⌜ r ≡ phandles (all-nodes (now (self .entry) .blob .bytes .now) (now (self .entry) .blob .header)) ⌝ }
+        ensures { λ r. ⌜ r ≡ phandles (nodes-of (now (self .entry))) ⌝ }
     {
         let mut found = 0;
         let mut count = 0;
