@@ -17,10 +17,11 @@ use Rattle.fdt.specs.Properties.{Owned}
 use Rattle.tree.specs.declared.fault.RouteFault.{RouteFault}
 use Rattle.tree.specs.declared.fault.RouteFault.the-variants.{Token, Value, Phandle}
 use Rattle.tree.specs.Nodes.{Entry, Listed, listed, broken}
-use Rattle.tree.specs.Phandles.{phandle-of, places, held, one-cell, is-cell, used, good-handle, handle-checked, phandle-checked, phandles-from, phandles, handle, Good-phandles}
+use Rattle.tree.specs.Opening.{Readable}
+use Rattle.tree.specs.Phandles.{phandle-name, phandle-of, places, held, one-cell, is-cell, used, good-handle, handle-checked, phandle-checked, phandles-from, phandles, handle, Good-phandles}
 use Rattle.fdt.proofs.Onward.{after-by, cond-ok}
 use Rattle.rules.proofs.Trees.{no-result}
-use Rattle.tree.proofs.Readable.{Clean, clean-more}
+use Rattle.tree.proofs.Readable.{readable-more}
 
 pub held-ok : {X : Type 0} (r : Result X TokenFault) (x : X) → held r ≡ Ok x → r ≡ Ok x
 held-ok (Ok y) x e = cc
@@ -96,12 +97,12 @@ unfolding has-some
 fine-checked before e None q f = ap (λ r. after (held r) (handle-checked (e .place) before)) q
 fine-checked before e (Some p) q f = ap (λ r. after (held r) (handle-checked (e .place) before)) q ∙ fine-handle (e .place) p before (f p q)
 
-pub fine-accepted : (n : ℕ) (before es : List Listed) → Clean es → Fine before es → (m : ℕ) × (phandles-from n before es ≡ Ok m)
+pub fine-accepted : (n : ℕ) (before es : List Listed) → Readable es → Fine before es → (m : ℕ) × (phandles-from n before es ≡ Ok m)
 fine-accepted n before [] c f = (n, refl)
 fine-accepted n before (broken g ∷ es) c f = absurd c
 fine-accepted n before (listed e ∷ es) c f =
-    let t = has-some (c .0 .0) in
-    let q = fine-checked before e (c .0 .0) (c .0 .1) (f .0) in
+    let t = has-some (c .0 phandle-name .0) in
+    let q = fine-checked before e (c .0 phandle-name .0) (c .0 phandle-name .1) (f .0) in
     let r = fine-accepted (cond t (n + 1) n) (before ++ (listed e ∷ [])) es (c .1) (f .1) in
     (r .0, ap (λ z. after z (λ has. phandles-from (cond has (n + 1) n) (before ++ (listed e ∷ [])) es)) q ∙ r .1)
 
@@ -131,14 +132,14 @@ is-cell-no : (x : ℕ) (o : Option Owned) → ((p : Owned) → o ≡ Some p → 
 is-cell-no x None f = refl
 is-cell-no x (Some p) f = and-right (eqb (length (p .value .bytes)) 4) (eqb (handle p) x) (ne-eqb (handle p) x (f p refl))
 
-used-new : (x : ℕ) (es : List Listed) → Clean es
+used-new : (x : ℕ) (es : List Listed) → Readable es
     → ((xs ys : List Listed) (d : Entry) (p : Owned) → es ≡ xs ++ (listed d ∷ ys) → phandle-of d ≡ Ok (Some p) → handle p ≡ x → ⊥)
     → used x es ≡ Ok false
 used-new x [] c f = refl
 used-new x (broken g ∷ es) c f = absurd c
 used-new x (listed d ∷ es) c f =
-    let o = c .0 .0 in
-    let q = c .0 .1 in
+    let o = c .0 phandle-name .0 in
+    let q = c .0 phandle-name .1 in
     ap (λ r. after r (λ z. cond (is-cell x z) (Ok true) (used x es))) q
     ∙ ap (λ t. cond t (Ok true) (used x es)) (is-cell-no x o (λ p e. f [] es d p refl (q ∙ ap Ok e)))
     ∙ used-new x es (c .1) (λ xs ys b p e. f (listed d ∷ xs) ys b p (ap (λ z. listed d ∷ z) e))
@@ -169,7 +170,7 @@ fine-good es f = record { one = one; proper = proper; distinct = distinct }
 
 -- good phandles are fine, node by node
 module _ (all : List Listed) (g : Good-phandles all) where
-  good-from : (before es : List Listed) → all ≡ before ++ es → Clean before → Clean es → Fine before es
+  good-from : (before es : List Listed) → all ≡ before ++ es → Readable before → Readable es → Fine before es
   good-from before [] s cb ce = tt
   good-from before (broken f ∷ es) s cb ce = absurd ce
   good-from before (listed e ∷ es) s cb ce = (
@@ -180,8 +181,8 @@ module _ (all : List Listed) (g : Good-phandles all) where
       new = used-new (handle p) before cb (λ xs ys d r sb qd same.
           g .distinct xs ys es d e r p (s ∙ ap (λ z. z ++ (listed e ∷ es)) sb ∙ append-assoc xs (listed d ∷ ys) (listed e ∷ es)) qd q same);
     }),
-    good-from (before ++ (listed e ∷ [])) es (s ∙ sym (append-assoc before (listed e ∷ []) es)) (clean-more before (listed e ∷ []) cb (ce .0, tt)) (ce .1),
+    good-from (before ++ (listed e ∷ [])) es (s ∙ sym (append-assoc before (listed e ∷ []) es)) (readable-more before (listed e ∷ []) cb (ce .0, tt)) (ce .1),
   )
 
-pub good-fine-all : (es : List Listed) → Good-phandles es → Clean es → Fine [] es
+pub good-fine-all : (es : List Listed) → Good-phandles es → Readable es → Fine [] es
 good-fine-all es g c = good-from es g [] es refl tt c

@@ -17,10 +17,10 @@ use Rattle.fdt.proofs.Onward.{after-by, ok-same}
 use Rattle.tree.specs.declared.fault.RouteFault.{RouteFault}
 use Rattle.rules.specs.declared.walk.Walk.{Walk}
 use Rattle.tree.specs.Nodes.{all-nodes}
-use Rattle.tree.specs.Opening.{header-held, source-walked, walked-of, open-of, Opened, Opens}
+use Rattle.tree.specs.Opening.{header-held, source-walked, walked-of, open-of, Opened, Opens, Reads-all}
 use Rattle.tree.specs.Phandles.{held, phandles}
 use Rattle.tree.proofs.Handles.{held-ok, accepted-fine, fine-accepted, fine-good, good-fine-all}
-use Rattle.tree.proofs.Readable.{clean-nodes}
+use Rattle.tree.proofs.Readable.{readable-nodes}
 use Rattle.rules.proofs.Trees.{no-result, tree-accepted, accepted-tree}
 
 header-held-ok : {X : Type 0} (r : Result X HeaderFault) (x : X) → header-held r ≡ Ok x → r ≡ Ok x
@@ -67,14 +67,21 @@ opened-accepted b s o =
     let ts = all-items (s .bytes) h in
     let blob : blob-of b ≡ Ok s = ap (blob-from b) (o .header) ∙ ap (λ x. Ok (source x h)) (sym (o .bytes)) in
     let w = tree-accepted (ending h) (h .structure) ts (o .tree) in
-    let clean = clean-nodes (ending h) (w .0) (h .structure) ts (w .1) in
-    let n = fine-accepted 0 [] (all-nodes (s .bytes) h) clean (good-fine-all (all-nodes (s .bytes) h) (o .phandles) clean) in
+    let reads = readable-nodes (ending h) (w .0) (h .structure) ts (w .1) in
+    let n = fine-accepted 0 [] (all-nodes (s .bytes) h) reads (good-fine-all (all-nodes (s .bytes) h) (o .phandles) reads) in
     let walk : walked-of b ≡ Ok s = ap (λ r. after (header-held r) (λ s. after (source-walked s) (λ w. Ok s))) blob ∙ ap (λ r. after r (λ w. Ok s)) (w .1) in
     ap (λ r. after (held r) (λ s. after (phandles (all-nodes (s .bytes) (s .header))) (λ n. Ok s))) walk
     ∙ ap (λ r. after r (λ n. Ok s)) (n .1)
 
 pub opens-exactly : (b : List ℕ) (r : Result Source RouteFault) → r ≡ open-of b → Opens b r
 opens-exactly b r e s = record { only = λ q. accepted-opened b s (sym e ∙ q); every = λ o. e ∙ opened-accepted b s o }
+
+-- nothing of an opened tree is refused
+pub opens-readable : (b : List ℕ) (r : Result Source RouteFault) → r ≡ open-of b → Reads-all r
+opens-readable b r e s q =
+    let o = open-parts b s (sym e ∙ q) in
+    let w = walk-parts b s (o .0) in
+    readable-nodes (ending (s .header)) (w .1 .0) (s .header .structure) (all-items (s .bytes) (s .header)) (w .1 .1)
 
 -- equal blobs are opened alike
 pub open-same : (b c : List ℕ) → blob-of b ≡ blob-of c → open-of b ≡ open-of c

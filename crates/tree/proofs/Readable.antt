@@ -21,19 +21,13 @@ use Rattle.rules.specs.declared.walk.Walk.{Walk}
 use Rattle.rules.specs.declared.walk.Stage.the-variants.{Start, Properties as Owning, Subnodes, Finished}
 use Rattle.rules.specs.Rules.{walk, admitted, checked}
 use Rattle.tree.specs.Nodes.{Entry, Listed, listed, broken, nodes}
-use Rattle.tree.specs.Phandles.{phandle-name, phandle-of}
+use Rattle.tree.specs.Opening.{Readable}
 use Rattle.rules.proofs.Trees.{no-result, Standing, start, inside, done, depth-of, stand, up, close-in}
 
--- every node was read, and so was its phandle
-abbrev pub Clean : List Listed → Type 0
-Clean [] = Unit {0}
-Clean (broken f ∷ es) = ⊥
-Clean (listed e ∷ es) = ((o : Option Owned) × (phandle-of e ≡ Ok o)) × Clean es
-
-pub clean-more : (es fs : List Listed) → Clean es → Clean fs → Clean (es ++ fs)
-clean-more [] fs x y = y
-clean-more (broken f ∷ es) fs x y = absurd x
-clean-more (listed e ∷ es) fs x y = (x .0, clean-more es fs (x .1) y)
+pub readable-more : (es fs : List Listed) → Readable es → Readable fs → Readable (es ++ fs)
+readable-more [] fs x y = y
+readable-more (broken f ∷ es) fs x y = absurd x
+readable-more (listed e ∷ es) fs x y = (x .0, readable-more es fs (x .1) y)
 
 -- some property or none is found
 abbrev Found : List ℕ → List Item → Type 0
@@ -58,39 +52,39 @@ module _ (end : ℕ) (name : List ℕ) (v : Walk) where
   found (item i (property key value) n ∷ ts) done p e = no-result e
 
 module _ (end : ℕ) (v : Walk) where
-  root-clean : (i n : ℕ) (name : Piece) (ts : List Item) (p : ℕ) (t : Bool)
+  root-readable : (i n : ℕ) (name : Piece) (ts : List Item) (p : ℕ) (t : Bool)
       → checked end (cond t (Ok (stand n (inside true 0))) (Err (Rule (at p)))) ts ≡ Ok v
-      → (checked end (Ok (stand n (inside true 0))) ts ≡ Ok v → Clean (nodes 1 ts)) → Clean (nodes 0 (item i (opens name) n ∷ ts))
-  root-clean i n name ts p false e ih = no-result e
-  root-clean i n name ts p true e ih = (found end phandle-name v ts (inside true 0) n e, ih e)
+      → (checked end (Ok (stand n (inside true 0))) ts ≡ Ok v → Readable (nodes 1 ts)) → Readable (nodes 0 (item i (opens name) n ∷ ts))
+  root-readable i n name ts p false e ih = no-result e
+  root-readable i n name ts p true e ih = (λ key. found end key v ts (inside true 0) n e, ih e)
 
-  sub-clean : (i n d : ℕ) (name : Piece) (ts : List Item) (p : ℕ) (t : Bool) → leb 16 (suc d) ≡ t
+  sub-readable : (i n d : ℕ) (name : Piece) (ts : List Item) (p : ℕ) (t : Bool) → leb 16 (suc d) ≡ t
       → checked end (cond t (Err (Depth (at p))) (Ok (walk n (suc d + 1) Owning))) ts ≡ Ok v
-      → (checked end (Ok (stand n (inside true (suc d)))) ts ≡ Ok v → Clean (nodes (suc (suc d)) ts))
-      → Clean (nodes (suc d) (item i (opens name) n ∷ ts))
-  sub-clean i n d name ts p true et e ih = no-result e
-  sub-clean i n d name ts p false et e ih =
+      → (checked end (Ok (stand n (inside true (suc d)))) ts ≡ Ok v → Readable (nodes (suc (suc d)) ts))
+      → Readable (nodes (suc d) (item i (opens name) n ∷ ts))
+  sub-readable i n d name ts p true et e ih = no-result e
+  sub-readable i n d name ts p false et e ih =
       let a : suc d + 1 ≡ suc (suc d) = omega arith in
       let q = rw a at e in
-      rw (et, a) (found end phandle-name v ts (inside true (suc d)) n q, ih q)
+      rw (et, a) (λ key. found end key v ts (inside true (suc d)) n q, ih q)
 
-  clean : (ts : List Item) (s : Standing) (p : ℕ) → checked end (Ok (stand p s)) ts ≡ Ok v → Clean (nodes (depth-of s) ts)
-  clean [] s p e = no-result e
-  clean (bad f ∷ ts) s p e = no-result e
-  clean (item i nothing n ∷ ts) s p e = clean ts s n e
-  clean (item i (opens name) n ∷ ts) start p e = root-clean i n name ts p (eqb (length (name .bytes)) 0) e (clean ts (inside true 0) n)
-  clean (item i (opens name) n ∷ ts) (inside true d) p e = sub-clean i n d name ts p (leb 16 (suc d)) refl e (clean ts (inside true (suc d)) n)
-  clean (item i (opens name) n ∷ ts) (inside false d) p e = sub-clean i n d name ts p (leb 16 (suc d)) refl e (clean ts (inside true (suc d)) n)
-  clean (item i (opens name) n ∷ ts) done p e = no-result e
-  clean (item i (property name value) n ∷ ts) start p e = no-result e
-  clean (item i (property name value) n ∷ ts) (inside true d) p e = clean ts (inside true d) n e
-  clean (item i (property name value) n ∷ ts) (inside false d) p e = no-result e
-  clean (item i (property name value) n ∷ ts) done p e = no-result e
-  clean (item i closes n ∷ ts) start p e = no-result e
-  clean (item i closes n ∷ ts) (inside b zero) p e = clean ts done n (sym (ap (λ r. checked end r ts) (close-in end p b zero n)) ∙ e)
-  clean (item i closes n ∷ ts) (inside b (suc d)) p e = clean ts (inside false d) n (sym (ap (λ r. checked end r ts) (close-in end p b (suc d) n)) ∙ e)
-  clean (item i closes n ∷ ts) done p e = no-result e
-  clean (item i ends n ∷ ts) s p e = tt
+  readable : (ts : List Item) (s : Standing) (p : ℕ) → checked end (Ok (stand p s)) ts ≡ Ok v → Readable (nodes (depth-of s) ts)
+  readable [] s p e = no-result e
+  readable (bad f ∷ ts) s p e = no-result e
+  readable (item i nothing n ∷ ts) s p e = readable ts s n e
+  readable (item i (opens name) n ∷ ts) start p e = root-readable i n name ts p (eqb (length (name .bytes)) 0) e (readable ts (inside true 0) n)
+  readable (item i (opens name) n ∷ ts) (inside true d) p e = sub-readable i n d name ts p (leb 16 (suc d)) refl e (readable ts (inside true (suc d)) n)
+  readable (item i (opens name) n ∷ ts) (inside false d) p e = sub-readable i n d name ts p (leb 16 (suc d)) refl e (readable ts (inside true (suc d)) n)
+  readable (item i (opens name) n ∷ ts) done p e = no-result e
+  readable (item i (property name value) n ∷ ts) start p e = no-result e
+  readable (item i (property name value) n ∷ ts) (inside true d) p e = readable ts (inside true d) n e
+  readable (item i (property name value) n ∷ ts) (inside false d) p e = no-result e
+  readable (item i (property name value) n ∷ ts) done p e = no-result e
+  readable (item i closes n ∷ ts) start p e = no-result e
+  readable (item i closes n ∷ ts) (inside b zero) p e = readable ts done n (sym (ap (λ r. checked end r ts) (close-in end p b zero n)) ∙ e)
+  readable (item i closes n ∷ ts) (inside b (suc d)) p e = readable ts (inside false d) n (sym (ap (λ r. checked end r ts) (close-in end p b (suc d) n)) ∙ e)
+  readable (item i closes n ∷ ts) done p e = no-result e
+  readable (item i ends n ∷ ts) s p e = tt
 
-  pub clean-nodes : (p : ℕ) (ts : List Item) → checked end (Ok (walk p 0 Start)) ts ≡ Ok v → Clean (nodes 0 ts)
-  clean-nodes p ts e = clean ts start p e
+  pub readable-nodes : (p : ℕ) (ts : List Item) → checked end (Ok (walk p 0 Start)) ts ≡ Ok v → Readable (nodes 0 ts)
+  readable-nodes p ts e = readable ts start p e

@@ -1,8 +1,9 @@
 -- What opening answers.
 use mathlib.Core.Path.{_≡_}
-use mathlib.Core.List.{List}
+use mathlib.Core.List.{List, [], _∷_}
 use Prim.Native.Nat.{ℕ}
 use lib.ListN.{take}
+use Rattle.std.specs.declared.option.Option.{Option}
 use Rattle.std.specs.declared.result.Result.{Result}
 use Rattle.std.specs.declared.result.Result.the-variants.{Ok, Err}
 use Rattle.search.specs.Exactly.{Exactly}
@@ -14,11 +15,12 @@ use Rattle.fdt.specs.declared.fault.TokenFault.the-variants as fault
 use Rattle.fdt.specs.Blobs.{Source, source, blob-of}
 use Rattle.fdt.specs.Headers.{header-of}
 use Rattle.fdt.specs.Items.{all-items}
+use Rattle.fdt.specs.Properties.{Owned, sought}
 use Rattle.fdt.specs.Tokens.{after, ending}
 use Rattle.tree.specs.declared.fault.RouteFault.{RouteFault}
 use Rattle.rules.specs.declared.walk.Walk.{Walk}
 use Rattle.tree.specs.declared.tree.Tree.{Tree}
-use Rattle.tree.specs.Nodes.{all-nodes}
+use Rattle.tree.specs.Nodes.{Listed, listed, broken, all-nodes}
 use Rattle.tree.specs.Phandles.{held, phandles, Good-phandles}
 use Rattle.rules.specs.Rules.{walked}
 use Rattle.rules.specs.Trees.{OneTree}
@@ -49,6 +51,16 @@ walked-of b = after (header-held (blob-of b)) (λ s. after (source-walked s) (λ
 -- then good phandles
 abbrev pub open-of : List ℕ → Result Source RouteFault
 open-of b = after (held (walked-of b)) (λ s. after (phandles (all-nodes (s .bytes) (s .header))) (λ n. Ok s))
+
+-- Every node was read, and its property of any name is found or absent.
+abbrev pub Readable : List Listed → Type 0
+Readable [] = Unit {0}
+Readable (broken f ∷ es) = ⊥
+Readable (listed e ∷ es) = ((name : List ℕ) → (o : Option Owned) × (sought name (e .rest) ≡ Ok o)) × Readable es
+
+-- Nothing of an opened tree is refused.
+abbrev pub Reads-all : Result Source RouteFault → Type 0
+Reads-all r = (s : Source) → r ≡ Ok s → Readable (all-nodes (s .bytes) (s .header))
 
 -- The blob s at the front of b: its header is good, its tokens are one tree, and its phandles are good.
 pub record Opened (b : List ℕ) (s : Source) : Type 0 where
