@@ -1,3 +1,4 @@
 pub mod Fronts
 pub mod Onward
+pub mod Padding
 pub mod Standing

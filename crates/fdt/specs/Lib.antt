@@ -7,3 +7,4 @@ pub mod Reads
 pub mod Reports
 pub mod Stands
 pub mod Tokens
+pub mod Unread

@@ -7,6 +7,7 @@ ghost use Rattle.fdt.specs.Blobs.{Same-front, blob-of, blob-seen};
 ghost use Rattle.fdt.specs.Items.{more};
 ghost use Rattle.fdt.specs.Reads.{token-of, tokens-of};
 ghost use Rattle.fdt.specs.Stands.{Token-stands};
+ghost use Rattle.fdt.specs.Unread.{Decided};
 ghost use Rattle.fdt.specs.Tokens.{align, ending, open-at, property-at, step-seen};
 use super::cell::cell_at;
 use super::cell::name_at;
@@ -56,6 +57,7 @@ impl<'a> Blob<'a> {
     pub fn token_at(&self, place: Place) -> Result<Step<'a>, TokenFault>
         ensures is { λ r. ⌜ step-seen r ≡ token-of (now (self .entry)) (place .0) ⌝ }
         ensures stands { λ r. ⌜ Token-stands (now (self .entry) .bytes .now) (step-seen r) ⌝ }
+        ensures decided { λ r. ⌜ Decided (now (self .entry) .bytes .now) (now (self .entry) .header) (place .0) (step-seen r) ⌝ }
         ensures goes { λ r. ⌜ made r (λ s. (place .0 + 4 ≤ s .next .0) × (place .0 + 4 ≤ ending (now (self .entry) .header))) ⌝ }
         ensures rest { λ r. ⌜ tokens-of (now (self .entry)) (place .0) ≡ more (tokens-of (now (self .entry))) (place .0) (step-seen r) ⌝ }
     {

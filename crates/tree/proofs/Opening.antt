@@ -28,21 +28,21 @@ header-held-ok (Ok y) x e = cc
 header-held-ok (Err f) x e = no-result e
 
 -- a blob is its header and the bytes up to the total size
-blob-parts : (b : List ℕ) (s : Source) (r : Result Header HeaderFault) → blob-from b r ≡ Ok s → (r ≡ Ok (s .header)) × (s .bytes ≡ take (s .header .total) b)
+pub blob-parts : (b : List ℕ) (s : Source) (r : Result Header HeaderFault) → blob-from b r ≡ Ok s → (r ≡ Ok (s .header)) × (s .bytes ≡ take (s .header .total) b)
 blob-parts b s (Ok h) e =
     let q : source (take (h .total) b) h ≡ s = ok-same e in
     let hh : h ≡ s .header = ap (λ z. z .header) q in
     (ap Ok hh, sym (ap (λ z. z .bytes) q) ∙ ap (λ (z : Header). take (z .total) b) hh)
 blob-parts b s (Err f) e = no-result e
 
-walk-parts : (b : List ℕ) (s : Source) → walked-of b ≡ Ok s → (blob-of b ≡ Ok s) × ((w : Walk) × (source-walked s ≡ Ok w))
+pub walk-parts : (b : List ℕ) (s : Source) → walked-of b ≡ Ok s → (blob-of b ≡ Ok s) × ((w : Walk) × (source-walked s ≡ Ok w))
 walk-parts b s =
     after-by (header-held (blob-of b)) (λ s. after (source-walked s) (λ w. Ok s)) s (λ t et.
     after-by (source-walked t) (λ w. Ok t) s (λ w ew e.
     let q : t ≡ s = ok-same e in
     (header-held-ok (blob-of b) t et ∙ ap Ok q, (w, subst (λ (z : Source). source-walked z ≡ Ok w) q ew))))
 
-open-parts : (b : List ℕ) (s : Source) → open-of b ≡ Ok s → (walked-of b ≡ Ok s) × ((n : ℕ) × (phandles (all-nodes (s .bytes) (s .header)) ≡ Ok n))
+pub open-parts : (b : List ℕ) (s : Source) → open-of b ≡ Ok s → (walked-of b ≡ Ok s) × ((n : ℕ) × (phandles (all-nodes (s .bytes) (s .header)) ≡ Ok n))
 open-parts b s =
     after-by (held (walked-of b)) (λ s. after (phandles (all-nodes (s .bytes) (s .header))) (λ n. Ok s)) s (λ t et.
     after-by (phandles (all-nodes (t .bytes) (t .header))) (λ n. Ok t) s (λ n en e.

@@ -1,8 +1,8 @@
 -- What opening answers.
 use mathlib.Core.Path.{_≡_}
 use mathlib.Core.List.{List, [], _∷_}
-use Prim.Native.Nat.{ℕ}
-use lib.ListN.{take}
+use Prim.Native.Nat.{ℕ, _+_}
+use lib.ListN.{length, take}
 use Rattle.std.specs.declared.option.Option.{Option}
 use Rattle.std.specs.declared.result.Result.{Result}
 use Rattle.std.specs.declared.result.Result.the-variants.{Ok, Err}
@@ -17,6 +17,7 @@ use Rattle.fdt.specs.Headers.{header-of}
 use Rattle.fdt.specs.Items.{all-items}
 use Rattle.fdt.specs.Properties.{Owned, sought}
 use Rattle.fdt.specs.Tokens.{after, ending}
+use Rattle.fdt.specs.Unread.{Same, Same-items}
 use Rattle.tree.specs.declared.fault.RouteFault.{RouteFault}
 use Rattle.rules.specs.declared.walk.Walk.{Walk}
 use Rattle.tree.specs.declared.tree.Tree.{Tree}
@@ -72,3 +73,20 @@ pub record Opened (b : List ℕ) (s : Source) : Type 0 where
 -- Opening accepts exactly such blobs.
 abbrev pub Opens : List ℕ → Result Source RouteFault → Type 0
 Opens b r = (s : Source) → Exactly (r ≡ Ok s) (Opened b s)
+
+-- c has the bytes of b wherever they are read: in the header, and in the blob's tokens and the names of properties.
+pub record Same-read (b c : List ℕ) : Type 0 where
+  pub size : length b ≡ length c
+  pub header : Same b c 0 40
+  pub names : (s : Source) → blob-of b ≡ Ok s → Same (s .bytes) (take (s .header .total) c) (s .header .strings) (s .header .strings + s .header .«strings_size»)
+  pub tokens : (s : Source) → blob-of b ≡ Ok s → Same-items (s .bytes) (take (s .header .total) c) (s .header) (all-items (s .bytes) (s .header))
+
+-- what opening says, without the bytes
+abbrev pub verdict : Result Source RouteFault → Result Header RouteFault
+verdict (Ok s) = Ok (s .header)
+verdict (Err f) = Err f
+
+-- Bytes that are not read, padding among them, do not matter: the same is refused, or accepted with the same tokens.
+pub record Decided-by (b : List ℕ) (r : Result Source RouteFault) : Type 0 where
+  pub verdicts : (c : List ℕ) → Same-read b c → verdict r ≡ verdict (open-of c)
+  pub tokens : (c : List ℕ) → Same-read b c → (s : Source) → r ≡ Ok s → all-items (s .bytes) (s .header) ≡ all-items (take (s .header .total) c) (s .header)

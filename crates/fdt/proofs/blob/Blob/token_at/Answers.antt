@@ -10,6 +10,7 @@ use Rattle.fdt.specs.declared.fault.TokenFault.{TokenFault}
 use Rattle.fdt.specs.Tokens.{word, step-seen, token-at, ending}
 use Rattle.fdt.specs.Items.{items, more}
 use Rattle.fdt.proofs.Onward.{goes-on, items-is}
+use Rattle.fdt.proofs.Padding.{decided}
 use Rattle.fdt.proofs.Standing.{token-stands}
 use Rattle.fdt.proofs.blob.Blob.token_at.Needs as need
 
@@ -26,6 +27,7 @@ returns c =
     record {
       is = e;
       stands = token-stands b h i (step-seen (c .read-token .result)) e;
+      decided = decided b h i (step-seen (c .read-token .result)) e;
       goes = step-goes b h i (c .read-token .result) e;
       rest = items-is b h i ∙ ap (more (items b h) i) (sym e);
     }
