@@ -12,9 +12,9 @@ use Rattle.std.proofs.shelf.Lists.{getD-take}
 use Rattle.std.proofs.shelf.Tests.{le-leb}
 use Rattle.std.proofs.shelf.Ways.{tells}
 use Rattle.fdt.specs.declared.header.Header.{Header}
-use Rattle.fdt.specs.declared.fault.HeaderFault.{HeaderFault}
-use Rattle.fdt.specs.declared.fault.HeaderFault.the-variants.{Size, Magic, Version, Blocks}
-use Rattle.fdt.specs.Cells.{cell}
+use Rattle.faults.specs.declared.fault.HeaderFault.{HeaderFault}
+use Rattle.faults.specs.declared.fault.HeaderFault.the-variants.{Size, Magic, Version, Blocks}
+use Rattle.cells.specs.Cells.{cell}
 use Rattle.fdt.specs.Headers.{block-within, sized, versioned, blocked, header-cells}
 use Rattle.fdt.specs.Blobs.{Source, source, Same-front, blob-from, blob-of}
 

@@ -11,9 +11,9 @@ use Rattle.std.specs.declared.result.Result.the-variants.{Ok, Err}
 use Rattle.std.proofs.shelf.Tests.{leb-true, and-parts}
 use Rattle.std.proofs.shelf.Ways.{tells}
 use Rattle.fdt.specs.declared.header.Header.{Header}
-use Rattle.fdt.specs.declared.fault.TokenFault.{TokenFault}
-use Rattle.fdt.specs.declared.fault.TokenFault.the-variants.{Past}
-use Rattle.fdt.specs.Cells.{Piece, within, cell, cell-or, part-or, name-or}
+use Rattle.faults.specs.declared.fault.TokenFault.{TokenFault}
+use Rattle.faults.specs.declared.fault.TokenFault.the-variants.{Past}
+use Rattle.cells.specs.Cells.{Piece, within, cell, cell-or, part-or, name-or}
 use Rattle.fdt.specs.Tokens.{Word, opens, property, closes, nothing, ends, at, after, align, open-at, property-at, token-by, token-at, ending}
 use Rattle.fdt.specs.Items.{Item, item, bad, onward, more, items-in, items}
 

@@ -13,9 +13,9 @@ use Rattle.std.proofs.shelf.Lists.{getD-take, getD-drop, length-take-le, length
 use Rattle.std.proofs.shelf.Tests.{leb-true, ltb-true, and-parts, eqb-true, eqb-false, not-false, cases-lt}
 use Rattle.std.proofs.shelf.Ways.{tells}
 use Rattle.fdt.specs.declared.header.Header.{Header}
-use Rattle.fdt.specs.declared.fault.TokenFault.{TokenFault}
-use Rattle.fdt.specs.declared.fault.TokenFault.the-variants.{Past}
-use Rattle.fdt.specs.Cells.{Piece, within, standing, nonzero, leading-nonzero, name-size, cell-or, part-or, name-or}
+use Rattle.faults.specs.declared.fault.TokenFault.{TokenFault}
+use Rattle.faults.specs.declared.fault.TokenFault.the-variants.{Past}
+use Rattle.cells.specs.Cells.{Piece, within, standing, nonzero, leading-nonzero, name-size, cell-or, part-or, name-or}
 use Rattle.fdt.specs.Tokens.{Word, opens, property, closes, nothing, ends, at, after, align, open-at, property-at, token-by, token-at, ending}
 use Rattle.fdt.specs.Stands.{Stands, Named, Word-stands, Token-stands}
 use Rattle.fdt.proofs.Onward.{after-by, cond-ok, ok-same}

@@ -4,8 +4,8 @@ use Prim.Native.Nat.{ℕ, zero, suc, _-_}
 use Rattle.std.specs.declared.result.Result.{Result}
 use Rattle.std.specs.declared.result.Result.the-variants.{Ok, Err}
 use Rattle.fdt.specs.declared.header.Header.{Header}
-use Rattle.fdt.specs.declared.fault.TokenFault.{TokenFault}
-use Rattle.fdt.specs.Cells.{Piece}
+use Rattle.faults.specs.declared.fault.TokenFault.{TokenFault}
+use Rattle.cells.specs.Cells.{Piece}
 use Rattle.fdt.specs.Tokens.{Word, opens, property, closes, nothing, ends, token-at, ending}
 
 -- a token at its place, with the place of the next; or why none could be read

@@ -1,10 +1,8 @@
 pub mod Blobs
-pub mod Cells
 pub mod Headers
 pub mod Items
 pub mod Properties
 pub mod Reads
-pub mod Reports
 pub mod Stands
 pub mod Tokens
 pub mod Unread

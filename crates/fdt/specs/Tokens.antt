@@ -7,13 +7,13 @@ use lib.ListN.{length}
 use Rattle.std.specs.declared.result.Result.{Result}
 use Rattle.std.specs.declared.result.Result.the-variants.{Ok, Err}
 use Rattle.fdt.specs.declared.header.Header.{Header}
-use Rattle.fdt.specs.declared.part.Place.{Place}
+use Rattle.faults.specs.declared.place.Place.{Place}
 use Rattle.fdt.specs.declared.token.Token.{Token}
 use Rattle.fdt.specs.declared.token.Token.the-variants.{Open, Property, Close, Nothing, End}
 use Rattle.fdt.specs.declared.token.Step.{Step}
-use Rattle.fdt.specs.declared.fault.TokenFault.{TokenFault}
-use Rattle.fdt.specs.declared.fault.TokenFault.the-variants.{Past}
-use Rattle.fdt.specs.Cells.{Piece, piece, cell-or, part-or, name-or}
+use Rattle.faults.specs.declared.fault.TokenFault.{TokenFault}
+use Rattle.faults.specs.declared.fault.TokenFault.the-variants.{Past}
+use Rattle.cells.specs.Cells.{Piece, piece, cell-or, part-or, name-or}
 
 -- a token, with its name and value as pieces of the blob
 pub data Word : Type 0 where

@@ -6,8 +6,8 @@ use lib.ListN.{length, getD}
 use Rattle.std.specs.declared.result.Result.{Result}
 use Rattle.std.specs.declared.result.Result.the-variants.{Ok, Err}
 use Rattle.fdt.specs.declared.header.Header.{Header}
-use Rattle.fdt.specs.declared.fault.TokenFault.{TokenFault}
-use Rattle.fdt.specs.declared.fault.TokenFault.the-variants.{Header as Held, Past, Rule, Depth}
+use Rattle.faults.specs.declared.fault.TokenFault.{TokenFault}
+use Rattle.faults.specs.declared.fault.TokenFault.the-variants.{Header as Held, Past, Rule, Depth}
 use Rattle.fdt.specs.Items.{Item, item, bad}
 use Rattle.fdt.specs.Tokens.{Word, opens, property, closes, nothing, ends, ending, token-at}
 

@@ -9,15 +9,15 @@ ghost use Rattle.fdt.specs.Reads.{token-of, tokens-of};
 ghost use Rattle.fdt.specs.Stands.{Token-stands};
 ghost use Rattle.fdt.specs.Unread.{Decided};
 ghost use Rattle.fdt.specs.Tokens.{align, ending, open-at, property-at, step-seen};
-use super::cell::cell_at;
-use super::cell::name_at;
-use super::cell::part_at;
-use super::fault::HeaderFault;
-use super::fault::TokenFault;
 use super::header::Header;
-use super::part::Place;
 use super::token::Step;
 use super::token::Token;
+use cells::cell::cell_at;
+use cells::cell::name_at;
+use cells::cell::part_at;
+use faults::fault::HeaderFault;
+use faults::fault::TokenFault;
+use faults::place::Place;
 
 // The bytes of a blob up to its total size, with the header that they begin with. Only `new` makes one.
 #[derive(Clone, Copy)]

@@ -3,10 +3,10 @@ ghost use Rattle.std.specs.shelf.Text.{sameBytes};
 ghost use Rattle.fdt.specs.Reads.{tokens-of};
 ghost use Rattle.fdt.specs.Properties.{Property-goes, first-property, property-seen, sought};
 use super::blob::Blob;
-use super::fault::TokenFault;
-use super::part::Part;
-use super::part::Place;
 use super::token::Token;
+use cells::part::Part;
+use faults::fault::TokenFault;
+use faults::place::Place;
 
 // Where a walk stands: the place of the next token, and how many nodes are open there.
 #[derive(Clone, Copy)]

@@ -1,11 +1,7 @@
-//! The parts of a flattened devicetree: cells, the header, tokens, and the look-ahead for a property.
+//! The parts of a flattened devicetree: the header, tokens, and the look-ahead for a property.
 //! Each call equals a definition in specs/ over the blob's bytes, whatever bytes it is given, and reads nothing past
 //! the total size. `Blob` is a blob with a good header; whether its tokens form one tree is asked by the crate `tree`.
 pub mod blob;
-pub mod cell;
 pub mod cursor;
-pub mod fault;
 pub mod header;
-pub mod part;
-pub mod report;
 pub mod token;

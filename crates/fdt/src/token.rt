@@ -1,5 +1,5 @@
-use super::part::Part;
-use super::part::Place;
+use cells::part::Part;
+use faults::place::Place;
 
 // A token of the structure block; names and values are parts of the blob.
 #[derive(Clone, Copy)]

@@ -1,10 +1,10 @@
 // The listing of one blob, as bytes: names are printed byte for byte.
-use fdt::fault::TokenFault;
-use fdt::report::Report;
+use faults::fault::RouteFault;
+use faults::fault::TokenFault;
+use faults::report::Report;
 use std::alloc::AllocError;
 use std::alloc::Global;
 use std::alloc::Refused;
-use tree::fault::RouteFault;
 use tree::node::Node;
 use tree::tree::Tree;
 

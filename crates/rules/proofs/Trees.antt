@@ -10,9 +10,9 @@ use Rattle.std.proofs.shelf.Tests.{eqb-true, leb-false, lt-leb, eq-eqb, ne-eqb}
 use Rattle.std.specs.declared.result.Result.{Result}
 use Rattle.std.specs.declared.result.Result.the-variants.{Ok, Err}
 use Rattle.fdt.specs.declared.header.Header.{Header}
-use Rattle.fdt.specs.declared.fault.TokenFault.{TokenFault}
-use Rattle.fdt.specs.declared.fault.TokenFault.the-variants.{Rule, Depth}
-use Rattle.fdt.specs.Cells.{Piece}
+use Rattle.faults.specs.declared.fault.TokenFault.{TokenFault}
+use Rattle.faults.specs.declared.fault.TokenFault.the-variants.{Rule, Depth}
+use Rattle.cells.specs.Cells.{Piece}
 use Rattle.fdt.specs.Tokens.{Word, opens, property, closes, nothing, ends, at, ending}
 use Rattle.fdt.specs.Items.{Item, item, bad, all-items}
 use Rattle.rules.specs.declared.walk.Walk.{Walk}

@@ -6,8 +6,8 @@ use Rattle.std.specs.declared.result.Result.{Result}
 use Rattle.std.specs.declared.result.Result.the-variants.{Ok}
 use Rattle.search.specs.Exactly.{Exactly}
 use Rattle.fdt.specs.declared.header.Header.{Header}
-use Rattle.fdt.specs.declared.fault.TokenFault.{TokenFault}
-use Rattle.fdt.specs.Cells.{Piece}
+use Rattle.faults.specs.declared.fault.TokenFault.{TokenFault}
+use Rattle.cells.specs.Cells.{Piece}
 use Rattle.fdt.specs.Tokens.{Word, opens, property, closes, nothing, ends, ending}
 use Rattle.fdt.specs.Items.{Item, item, all-items}
 use Rattle.rules.specs.declared.walk.Walk.{Walk}

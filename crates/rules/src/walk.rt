@@ -3,10 +3,10 @@ ghost use Rattle.std.specs.Vec.{made};
 ghost use Rattle.fdt.specs.Tokens.{word};
 ghost use Rattle.rules.specs.Rules.{admitted, walk, walked};
 ghost use Rattle.rules.specs.Trees.{Accepts};
+use faults::fault::TokenFault;
+use faults::place::Place;
 use fdt::blob::Blob;
 use fdt::cursor::Cursor;
-use fdt::fault::TokenFault;
-use fdt::part::Place;
 use fdt::token::Token;
 
 // What may come next: the root, properties or subnodes, subnodes alone, or the end.

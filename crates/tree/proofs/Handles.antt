@@ -11,11 +11,11 @@ use Rattle.std.specs.declared.option.Option.the-variants.{Some, None}
 use Rattle.std.specs.declared.result.Result.{Result}
 use Rattle.std.specs.declared.result.Result.the-variants.{Ok, Err}
 use Rattle.std.proofs.shelf.Tests.{eqb-true, eqb-false, eq-eqb, ne-eqb, or-parts, or-from, and-from, and-right, both-ways}
-use Rattle.fdt.specs.declared.fault.TokenFault.{TokenFault}
+use Rattle.faults.specs.declared.fault.TokenFault.{TokenFault}
 use Rattle.fdt.specs.Tokens.{at, after}
 use Rattle.fdt.specs.Properties.{Owned}
-use Rattle.tree.specs.declared.fault.RouteFault.{RouteFault}
-use Rattle.tree.specs.declared.fault.RouteFault.the-variants.{Token, Value, Phandle}
+use Rattle.faults.specs.declared.fault.RouteFault.{RouteFault}
+use Rattle.faults.specs.declared.fault.RouteFault.the-variants.{Token, Value, Phandle}
 use Rattle.tree.specs.Nodes.{Entry, Listed, listed, broken}
 use Rattle.tree.specs.Opening.{Readable}
 use Rattle.tree.specs.Phandles.{phandle-name, phandle-of, places, held, one-cell, is-cell, used, good-handle, handle-checked, phandle-checked, phandles-from, phandles, handle, Good-phandles}

@@ -7,14 +7,14 @@ use Rattle.std.specs.declared.result.Result.{Result}
 use Rattle.std.specs.declared.result.Result.the-variants.{Ok, Err}
 use Rattle.search.specs.Exactly.{Exactly}
 use Rattle.fdt.specs.declared.header.Header.{Header}
-use Rattle.fdt.specs.declared.fault.HeaderFault.{HeaderFault}
-use Rattle.fdt.specs.declared.fault.TokenFault.{TokenFault}
+use Rattle.faults.specs.declared.fault.HeaderFault.{HeaderFault}
+use Rattle.faults.specs.declared.fault.TokenFault.{TokenFault}
 use Rattle.fdt.specs.Blobs.{Source, source, blob-from, blob-of}
 use Rattle.fdt.specs.Headers.{header-of}
 use Rattle.fdt.specs.Items.{all-items}
 use Rattle.fdt.specs.Tokens.{after, ending}
 use Rattle.fdt.proofs.Onward.{after-by, ok-same}
-use Rattle.tree.specs.declared.fault.RouteFault.{RouteFault}
+use Rattle.faults.specs.declared.fault.RouteFault.{RouteFault}
 use Rattle.rules.specs.declared.walk.Walk.{Walk}
 use Rattle.tree.specs.Nodes.{all-nodes}
 use Rattle.tree.specs.Opening.{header-held, source-walked, walked-of, open-of, Opened, Opens, Reads-all}

@@ -8,8 +8,8 @@ use Rattle.std.specs.declared.result.Result.{Result}
 use Rattle.std.specs.declared.result.Result.the-variants.{Ok, Err}
 use Rattle.std.proofs.shelf.Lists.{length-take}
 use Rattle.fdt.specs.declared.header.Header.{Header}
-use Rattle.fdt.specs.declared.fault.HeaderFault.{HeaderFault}
-use Rattle.fdt.specs.declared.fault.TokenFault.{TokenFault}
+use Rattle.faults.specs.declared.fault.HeaderFault.{HeaderFault}
+use Rattle.faults.specs.declared.fault.TokenFault.{TokenFault}
 use Rattle.fdt.specs.Blobs.{Source, source, blob-from, blob-of}
 use Rattle.fdt.specs.Headers.{header-of}
 use Rattle.fdt.specs.Items.{Item, all-items}
@@ -17,7 +17,7 @@ use Rattle.fdt.specs.Tokens.{after, ending}
 use Rattle.fdt.proofs.Padding.{items-decided, header-decided}
 use Rattle.rules.specs.declared.walk.Walk.{Walk}
 use Rattle.rules.specs.Rules.{checked, beginning}
-use Rattle.tree.specs.declared.fault.RouteFault.{RouteFault}
+use Rattle.faults.specs.declared.fault.RouteFault.{RouteFault}
 use Rattle.tree.specs.Nodes.{all-nodes, nodes}
 use Rattle.tree.specs.Opening.{header-held, source-walked, open-of, Same-read, verdict, Decided-by}
 use Rattle.tree.specs.Phandles.{held, phandles}

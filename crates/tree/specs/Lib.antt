@@ -2,4 +2,3 @@ pub mod Nodes
 pub mod Opening
 pub mod Phandles
 pub mod Reads
-pub mod Reports

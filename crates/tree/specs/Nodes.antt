@@ -8,9 +8,9 @@ use Rattle.std.specs.declared.option.Option.the-variants.{Some, None}
 use Rattle.std.specs.declared.result.Result.{Result}
 use Rattle.std.specs.declared.result.Result.the-variants.{Ok, Err}
 use Rattle.fdt.specs.declared.header.Header.{Header}
-use Rattle.fdt.specs.declared.fault.TokenFault.{TokenFault}
-use Rattle.fdt.specs.declared.fault.TokenFault.the-variants.{Rule, Depth}
-use Rattle.fdt.specs.Cells.{Piece, piece}
+use Rattle.faults.specs.declared.fault.TokenFault.{TokenFault}
+use Rattle.faults.specs.declared.fault.TokenFault.the-variants.{Rule, Depth}
+use Rattle.cells.specs.Cells.{Piece, piece}
 use Rattle.fdt.specs.Tokens.{Word, opens, property, closes, nothing, ends, at, ending}
 use Rattle.fdt.specs.Items.{Item, item, bad, items}
 use Rattle.tree.specs.declared.node.Node.{Node}

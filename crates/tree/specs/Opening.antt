@@ -9,16 +9,16 @@ use Rattle.std.specs.declared.result.Result.the-variants.{Ok, Err}
 use Rattle.search.specs.Exactly.{Exactly}
 use Rattle.fdt.specs.declared.blob.Blob.{Blob}
 use Rattle.fdt.specs.declared.header.Header.{Header}
-use Rattle.fdt.specs.declared.fault.HeaderFault.{HeaderFault}
-use Rattle.fdt.specs.declared.fault.TokenFault.{TokenFault}
-use Rattle.fdt.specs.declared.fault.TokenFault.the-variants as fault
+use Rattle.faults.specs.declared.fault.HeaderFault.{HeaderFault}
+use Rattle.faults.specs.declared.fault.TokenFault.{TokenFault}
+use Rattle.faults.specs.declared.fault.TokenFault.the-variants as fault
 use Rattle.fdt.specs.Blobs.{Source, source, blob-of}
 use Rattle.fdt.specs.Headers.{header-of}
 use Rattle.fdt.specs.Items.{all-items}
 use Rattle.fdt.specs.Properties.{Owned, sought}
 use Rattle.fdt.specs.Tokens.{after, ending}
 use Rattle.fdt.specs.Unread.{Same, Same-items}
-use Rattle.tree.specs.declared.fault.RouteFault.{RouteFault}
+use Rattle.faults.specs.declared.fault.RouteFault.{RouteFault}
 use Rattle.rules.specs.declared.walk.Walk.{Walk}
 use Rattle.tree.specs.declared.tree.Tree.{Tree}
 use Rattle.tree.specs.Nodes.{Listed, listed, broken, all-nodes}

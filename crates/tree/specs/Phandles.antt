@@ -9,13 +9,13 @@ use Rattle.std.specs.declared.option.Option.{Option}
 use Rattle.std.specs.declared.option.Option.the-variants.{Some, None}
 use Rattle.std.specs.declared.result.Result.{Result}
 use Rattle.std.specs.declared.result.Result.the-variants.{Ok, Err}
-use Rattle.fdt.specs.declared.fault.TokenFault.{TokenFault}
-use Rattle.fdt.specs.Cells.{cell}
+use Rattle.faults.specs.declared.fault.TokenFault.{TokenFault}
+use Rattle.cells.specs.Cells.{cell}
 use Rattle.fdt.specs.Tokens.{at, after}
 use Rattle.fdt.specs.Properties.{Owned, sought}
-use Rattle.tree.specs.declared.fault.At.{At}
-use Rattle.tree.specs.declared.fault.RouteFault.{RouteFault}
-use Rattle.tree.specs.declared.fault.RouteFault.the-variants.{Token, Value, Phandle}
+use Rattle.faults.specs.declared.place.At.{At}
+use Rattle.faults.specs.declared.fault.RouteFault.{RouteFault}
+use Rattle.faults.specs.declared.fault.RouteFault.the-variants.{Token, Value, Phandle}
 use Rattle.tree.specs.Nodes.{Entry, Listed, listed, broken}
 
 -- the name `phandle`

@@ -3,7 +3,7 @@ use mathlib.Core.List.{List}
 use Prim.Native.Nat.{ℕ}
 use Rattle.std.specs.declared.option.Option.{Option}
 use Rattle.std.specs.declared.result.Result.{Result}
-use Rattle.fdt.specs.declared.fault.TokenFault.{TokenFault}
+use Rattle.faults.specs.declared.fault.TokenFault.{TokenFault}
 use Rattle.fdt.specs.Items.{Item, items}
 use Rattle.tree.specs.declared.node.Node.{Node}
 use Rattle.tree.specs.declared.tree.Tree.{Tree}

@@ -1,6 +1,6 @@
+use cells::part::Part;
+use faults::place::Place;
 use fdt::cursor::Cursor;
-use fdt::part::Part;
-use fdt::part::Place;
 
 // A node: the place of its open token, its name, and the cursor past that token, whose depth is the node's.
 #[derive(Clone, Copy)]

@@ -3,11 +3,11 @@ ghost use mathlib.Core.List.{List};
 ghost use Prim.Native.Nat.{ℕ};
 ghost use Rattle.fdt.specs.Blobs.{Same-front};
 ghost use Rattle.tree.specs.Opening.{Decided-by, Opens, Reads-all, open-of, tree-seen, walked-of, walked-seen};
-use super::fault::RouteFault;
-use super::fault::RouteFromToken;
+use faults::fault::RouteFault;
+use faults::fault::RouteFromToken;
+use faults::fault::TokenFault;
+use faults::fault::TokenFromHeader;
 use fdt::blob::Blob;
-use fdt::fault::TokenFault;
-use fdt::fault::TokenFromHeader;
 use rules::walk::walk_tokens;
 
 pub mod nodes;

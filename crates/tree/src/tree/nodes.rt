@@ -4,10 +4,10 @@ ghost use Rattle.tree.specs.Nodes.{Goes-on, first-node, listed-by, node-at, pa
 ghost use Rattle.tree.specs.Reads.{node-in, nodes-in, nodes-of, tokens-in};
 use super::Tree;
 use crate::node::Node;
+use faults::fault::TokenFault;
+use faults::place::Place;
 use fdt::cursor::Cursor;
 use fdt::cursor::Property;
-use fdt::fault::TokenFault;
-use fdt::part::Place;
 use fdt::token::Token;
 
 impl<'a> Tree<'a> {

@@ -4,14 +4,14 @@ ghost use Rattle.fdt.specs.Properties.{option-seen, owned, property-seen};
 ghost use Rattle.tree.specs.Reads.{entry-in, node-in, nodes-of};
 ghost use Rattle.tree.specs.Phandles.{is-cell, one-cell, phandle-checked, phandle-of, phandles, used, with-phandle};
 use super::Tree;
-use crate::fault::At;
-use crate::fault::RouteFault;
-use crate::fault::RouteFromToken;
 use crate::node::Node;
-use fdt::cell::cell_at;
+use cells::cell::cell_at;
+use faults::fault::RouteFault;
+use faults::fault::RouteFromToken;
+use faults::fault::TokenFault;
+use faults::place::At;
+use faults::place::Place;
 use fdt::cursor::Property;
-use fdt::fault::TokenFault;
-use fdt::part::Place;
 
 // The one cell of a property of a node; 8 where its value is not one cell.
 pub fn one_cell(node: Place, property: &Property<'_>) -> Result<u32, RouteFault>

@@ -6,7 +6,7 @@ use Rattle.std.specs.declared.result.Result.{Result}
 use Rattle.std.specs.declared.result.Result.the-variants.{Ok, Err}
 use Rattle.fdt.specs.declared.header.Header.{Header}
 use Rattle.fdt.specs.declared.token.Step.{Step}
-use Rattle.fdt.specs.declared.fault.TokenFault.{TokenFault}
+use Rattle.faults.specs.declared.fault.TokenFault.{TokenFault}
 use Rattle.fdt.specs.Tokens.{word, step-seen, token-at, ending}
 use Rattle.fdt.specs.Items.{items, more}
 use Rattle.fdt.proofs.Onward.{goes-on, items-is}

@@ -1,6 +1,4 @@
-// A place is a byte offset in the blob: a token's is that of its first cell.
-#[derive(Clone, Copy, PartialEq, Eq, Debug)]
-pub struct Place(pub usize);
+use faults::place::Place;
 
 // A part of the blob, with the place of its first byte.
 #[derive(Clone, Copy)]

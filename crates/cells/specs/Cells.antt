@@ -7,7 +7,7 @@ use lib.ListN.{length, getD, take, drop}
 use Rattle.std.specs.declared.result.Result.{Result}
 use Rattle.std.specs.declared.result.Result.the-variants.{Ok, Err}
 use Rattle.std.specs.shelf.Lists.{leading}
-use Rattle.fdt.specs.declared.part.Part.{Part}
+use Rattle.cells.specs.declared.part.Part.{Part}
 
 -- the cell at byte offset i: 32 bits, most significant byte first
 abbrev pub cell : List ℕ → ℕ → ℕ

@@ -2,9 +2,9 @@ ghost use mathlib.Core.Path.{_≡_};
 ghost use Prim.Native.Nat.{_+_, _≤_};
 ghost use lib.ListN.{length};
 ghost use Rattle.std.specs.Vec.{made};
-ghost use Rattle.fdt.specs.Cells.{cell-or, name-or, part-or, part-seen, leading-nonzero};
+ghost use Rattle.cells.specs.Cells.{cell-or, name-or, part-or, part-seen, leading-nonzero};
 use super::part::Part;
-use super::part::Place;
+use faults::place::Place;
 
 // The cell at `at`, most significant byte first, or `past` where it does not end by `end` within the bytes.
 pub fn cell_at<F: Copy>(bytes: &[u8], at: usize, end: usize, past: F) -> Result<u32, F>

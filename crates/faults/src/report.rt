@@ -1,10 +1,12 @@
 ghost use mathlib.Core.Path.{_≡_};
-ghost use Rattle.fdt.specs.Reports.{header-report, report, token-report};
+ghost use Rattle.faults.specs.Reports.{header-report, placed, report, route-report, token-report};
 use super::fault::HeaderFault;
+use super::fault::RouteFault;
 use super::fault::TokenFault;
-use super::part::Place;
-use super::part::PlaceDebug;
-use super::part::PlacePartialEq;
+use super::place::At;
+use super::place::Place;
+use super::place::PlaceDebug;
+use super::place::PlacePartialEq;
 
 // A fault as it is reported: layer, number, the node's place and the property's, 0 where there is none.
 #[derive(Clone, Copy, PartialEq, Eq, Debug)]
@@ -57,6 +59,44 @@ impl TokenFault {
             TokenFault::Past(node) => at_token(5, node),
             TokenFault::Rule(node) => at_token(6, node),
             TokenFault::Depth(node) => at_token(7, node),
+        }
+    }
+}
+
+// A fault of layer 3.
+fn met(number: u8, at: At) -> Report
+    ensures { λ r. ⌜ r ≡ placed number at ⌝ }
+{
+    Report {
+        layer: 3,
+        number,
+        node: at.node,
+        property: at.property,
+    }
+}
+
+impl RouteFault {
+    // Layer 3, with both places; or the report of the fault that is held.
+    pub fn report(self) -> Report
+        ensures { λ r. ⌜ r ≡ route-report self ⌝ }
+    {
+        match self {
+            RouteFault::Token(f) => f.report(),
+            RouteFault::Value(at) => met(8, at),
+            RouteFault::Phandle(at) => met(9, at),
+            RouteFault::NoNode(at) => met(12, at),
+            RouteFault::NoParent(node) => met(
+                13,
+                At {
+                    node,
+                    property: Place(0),
+                },
+            ),
+            RouteFault::Short(at) => met(14, at),
+            RouteFault::NoEnd(at) => met(15, at),
+            RouteFault::Row(at) => met(16, at),
+            RouteFault::NoRow(at) => met(17, at),
+            RouteFault::TooManyRows(at) => met(18, at),
         }
     }
 }

@@ -5,8 +5,8 @@ use native.Mathlib.Omega.{arith}
 use lib.ListN.{length, getD}
 use Rattle.std.proofs.shelf.Sums.{leading-drop-yes, leading-drop-no, leading-drop-all}
 use Rattle.std.proofs.shelf.Ways.{tells}
-use Rattle.fdt.specs.Cells.{nonzero}
-use Rattle.fdt.proofs.cell.name_length.Needs as need
+use Rattle.cells.specs.Cells.{nonzero}
+use Rattle.cells.proofs.cell.name_length.Needs as need
 
 pub loop-n-again : need.loop-n-again
 loop-n-again c =

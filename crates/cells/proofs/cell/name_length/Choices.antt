@@ -1,8 +1,8 @@
 use mathlib.Core.Path.{_≡_}
 use Prim.Native.Nat.{_+_, _-_, _≤_}
 use lib.ListN.{length, drop}
-use Rattle.fdt.specs.Cells.{leading-nonzero}
-use Rattle.fdt.proofs.cell.name_length.Given as given
+use Rattle.cells.specs.Cells.{leading-nonzero}
+use Rattle.cells.proofs.cell.name_length.Given as given
 
 -- the bytes passed and those still to pass are those of the whole
 abbrev pub Inv-loop-n : given.InvT-loop-n
