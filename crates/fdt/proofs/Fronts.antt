@@ -11,11 +11,11 @@ use Rattle.std.specs.declared.result.Result.the-variants.{Ok, Err}
 use Rattle.std.proofs.shelf.Lists.{getD-take}
 use Rattle.std.proofs.shelf.Tests.{le-leb}
 use Rattle.std.proofs.shelf.Ways.{tells}
-use Rattle.fdt.specs.declared.header.Header.{Header}
+use Rattle.cells.specs.declared.header.Header.{Header}
 use Rattle.faults.specs.declared.fault.HeaderFault.{HeaderFault}
 use Rattle.faults.specs.declared.fault.HeaderFault.the-variants.{Size, Magic, Version, Blocks}
 use Rattle.cells.specs.Cells.{cell}
-use Rattle.fdt.specs.Headers.{block-within, sized, versioned, blocked, header-cells}
+use Rattle.cells.specs.Headers.{block-within, sized, versioned, blocked, header-cells}
 use Rattle.fdt.specs.Blobs.{Source, source, Same-front, blob-from, blob-of}
 
 -- the blob, from what is read of it: two tests of the length, eight cells, and the bytes up to the total size

@@ -10,7 +10,7 @@ use Rattle.std.specs.declared.result.Result.{Result}
 use Rattle.std.specs.declared.result.Result.the-variants.{Ok, Err}
 use Rattle.std.proofs.shelf.Tests.{leb-true, and-parts}
 use Rattle.std.proofs.shelf.Ways.{tells}
-use Rattle.fdt.specs.declared.header.Header.{Header}
+use Rattle.cells.specs.declared.header.Header.{Header}
 use Rattle.faults.specs.declared.fault.TokenFault.{TokenFault}
 use Rattle.faults.specs.declared.fault.TokenFault.the-variants.{Past}
 use Rattle.cells.specs.Cells.{Piece, within, cell, cell-or, part-or, name-or}

@@ -13,14 +13,14 @@ use Rattle.std.specs.declared.result.Result.the-variants.{Ok, Err}
 use Rattle.std.specs.shelf.Lists.{leading}
 use Rattle.std.proofs.shelf.Lists.{getD-take, getD-drop, length-take, length-take-le, length-drop}
 use Rattle.std.proofs.shelf.Tests.{leb-true, ltb-true, ltb-false, lt-ltb, and-parts, cases-lt, cases-bool}
-use Rattle.fdt.specs.declared.header.Header.{Header}
+use Rattle.cells.specs.declared.header.Header.{Header}
 use Rattle.faults.specs.declared.fault.TokenFault.{TokenFault}
 use Rattle.faults.specs.declared.fault.TokenFault.the-variants.{Past}
 use Rattle.cells.specs.Cells.{Piece, within, cell, standing, nonzero, leading-nonzero, name-size, cell-or, part-or, name-or}
 use Rattle.fdt.specs.Tokens.{Word, opens, property, closes, nothing, ends, at, after, align, open-at, property-at, token-by, token-at, ending}
 use Rattle.faults.specs.declared.fault.HeaderFault.{HeaderFault}
 use Rattle.faults.specs.declared.fault.HeaderFault.the-variants.{Size, Magic, Version, Blocks}
-use Rattle.fdt.specs.Headers.{block-within, header-of}
+use Rattle.cells.specs.Headers.{block-within, header-of}
 use Rattle.fdt.specs.Items.{Item, item, bad, more, items-in, items}
 use Rattle.fdt.specs.Unread.{token-end, reads-to, fault-place, Same, Same-token, Same-items, Decided}
 use Rattle.fdt.proofs.Onward.{after-by, cond-ok, ok-same}

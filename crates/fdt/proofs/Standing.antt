@@ -12,7 +12,7 @@ use Rattle.std.specs.shelf.Lists.{leading}
 use Rattle.std.proofs.shelf.Lists.{getD-take, getD-drop, length-take-le, length-drop}
 use Rattle.std.proofs.shelf.Tests.{leb-true, ltb-true, and-parts, eqb-true, eqb-false, not-false, cases-lt}
 use Rattle.std.proofs.shelf.Ways.{tells}
-use Rattle.fdt.specs.declared.header.Header.{Header}
+use Rattle.cells.specs.declared.header.Header.{Header}
 use Rattle.faults.specs.declared.fault.TokenFault.{TokenFault}
 use Rattle.faults.specs.declared.fault.TokenFault.the-variants.{Past}
 use Rattle.cells.specs.Cells.{Piece, within, standing, nonzero, leading-nonzero, name-size, cell-or, part-or, name-or}

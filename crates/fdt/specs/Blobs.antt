@@ -6,10 +6,10 @@ use lib.ListN.{length, take}
 use Rattle.std.specs.declared.result.Result.{Result}
 use Rattle.std.specs.declared.result.Result.the-variants.{Ok, Err}
 use Rattle.fdt.specs.declared.blob.Blob.{Blob}
-use Rattle.fdt.specs.declared.header.Header.{Header}
+use Rattle.cells.specs.declared.header.Header.{Header}
 use Rattle.faults.specs.declared.fault.HeaderFault.{HeaderFault}
 use Rattle.cells.specs.Cells.{cell}
-use Rattle.fdt.specs.Headers.{header-of}
+use Rattle.cells.specs.Headers.{header-of}
 
 pub record Source : Type 0 where
   pub bytes : List ℕ

@@ -3,7 +3,7 @@ use mathlib.Core.List.{List, [], _∷_}
 use Prim.Native.Nat.{ℕ, zero, suc, _-_}
 use Rattle.std.specs.declared.result.Result.{Result}
 use Rattle.std.specs.declared.result.Result.the-variants.{Ok, Err}
-use Rattle.fdt.specs.declared.header.Header.{Header}
+use Rattle.cells.specs.declared.header.Header.{Header}
 use Rattle.faults.specs.declared.fault.TokenFault.{TokenFault}
 use Rattle.cells.specs.Cells.{Piece}
 use Rattle.fdt.specs.Tokens.{Word, opens, property, closes, nothing, ends, token-at, ending}

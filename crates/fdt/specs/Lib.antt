@@ -1,5 +1,4 @@
 pub mod Blobs
-pub mod Headers
 pub mod Items
 pub mod Properties
 pub mod Reads

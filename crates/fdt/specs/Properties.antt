@@ -8,7 +8,7 @@ use Rattle.std.specs.declared.result.Result.{Result}
 use Rattle.std.specs.declared.result.Result.the-variants.{Ok, Err}
 use Rattle.std.specs.shelf.Text.{sameBytes}
 use Rattle.fdt.specs.declared.cursor.Property.{Property}
-use Rattle.fdt.specs.declared.header.Header.{Header}
+use Rattle.cells.specs.declared.header.Header.{Header}
 use Rattle.faults.specs.declared.fault.TokenFault.{TokenFault}
 use Rattle.cells.specs.Cells.{Piece, piece}
 use Rattle.fdt.specs.Tokens.{Word, opens, property, closes, nothing, ends, ending}

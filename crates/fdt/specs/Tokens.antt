@@ -6,7 +6,7 @@ use lib.Dec.{eqb, leb}
 use lib.ListN.{length}
 use Rattle.std.specs.declared.result.Result.{Result}
 use Rattle.std.specs.declared.result.Result.the-variants.{Ok, Err}
-use Rattle.fdt.specs.declared.header.Header.{Header}
+use Rattle.cells.specs.declared.header.Header.{Header}
 use Rattle.faults.specs.declared.place.Place.{Place}
 use Rattle.fdt.specs.declared.token.Token.{Token}
 use Rattle.fdt.specs.declared.token.Token.the-variants.{Open, Property, Close, Nothing, End}

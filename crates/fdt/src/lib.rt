@@ -1,7 +1,6 @@
-//! The parts of a flattened devicetree: the header, tokens, and the look-ahead for a property.
+//! A blob with a good header, its tokens, and the look-ahead for a property.
 //! Each call equals a definition in specs/ over the blob's bytes, whatever bytes it is given, and reads nothing past
 //! the total size. `Blob` is a blob with a good header; whether its tokens form one tree is asked by the crate `tree`.
 pub mod blob;
 pub mod cursor;
-pub mod header;
 pub mod token;

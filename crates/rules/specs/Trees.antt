@@ -5,7 +5,7 @@ use Prim.Native.Nat.{ℕ, suc, _≤_}
 use Rattle.std.specs.declared.result.Result.{Result}
 use Rattle.std.specs.declared.result.Result.the-variants.{Ok}
 use Rattle.search.specs.Exactly.{Exactly}
-use Rattle.fdt.specs.declared.header.Header.{Header}
+use Rattle.cells.specs.declared.header.Header.{Header}
 use Rattle.faults.specs.declared.fault.TokenFault.{TokenFault}
 use Rattle.cells.specs.Cells.{Piece}
 use Rattle.fdt.specs.Tokens.{Word, opens, property, closes, nothing, ends, ending}

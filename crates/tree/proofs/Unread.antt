@@ -7,11 +7,11 @@ use lib.ListN.{length, take}
 use Rattle.std.specs.declared.result.Result.{Result}
 use Rattle.std.specs.declared.result.Result.the-variants.{Ok, Err}
 use Rattle.std.proofs.shelf.Lists.{length-take}
-use Rattle.fdt.specs.declared.header.Header.{Header}
+use Rattle.cells.specs.declared.header.Header.{Header}
 use Rattle.faults.specs.declared.fault.HeaderFault.{HeaderFault}
 use Rattle.faults.specs.declared.fault.TokenFault.{TokenFault}
 use Rattle.fdt.specs.Blobs.{Source, source, blob-from, blob-of}
-use Rattle.fdt.specs.Headers.{header-of}
+use Rattle.cells.specs.Headers.{header-of}
 use Rattle.fdt.specs.Items.{Item, all-items}
 use Rattle.fdt.specs.Tokens.{after, ending}
 use Rattle.fdt.proofs.Padding.{items-decided, header-decided}

@@ -8,12 +8,12 @@ use Rattle.std.specs.declared.result.Result.{Result}
 use Rattle.std.specs.declared.result.Result.the-variants.{Ok, Err}
 use Rattle.search.specs.Exactly.{Exactly}
 use Rattle.fdt.specs.declared.blob.Blob.{Blob}
-use Rattle.fdt.specs.declared.header.Header.{Header}
+use Rattle.cells.specs.declared.header.Header.{Header}
 use Rattle.faults.specs.declared.fault.HeaderFault.{HeaderFault}
 use Rattle.faults.specs.declared.fault.TokenFault.{TokenFault}
 use Rattle.faults.specs.declared.fault.TokenFault.the-variants as fault
 use Rattle.fdt.specs.Blobs.{Source, source, blob-of}
-use Rattle.fdt.specs.Headers.{header-of}
+use Rattle.cells.specs.Headers.{header-of}
 use Rattle.fdt.specs.Items.{all-items}
 use Rattle.fdt.specs.Properties.{Owned, sought}
 use Rattle.fdt.specs.Tokens.{after, ending}

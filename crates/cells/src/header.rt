@@ -1,8 +1,8 @@
 ghost use mathlib.Core.Path.{_≡_};
 ghost use Rattle.cells.specs.Cells.{cell-or};
-ghost use Rattle.fdt.specs.Headers.{header-of, block-within};
+ghost use Rattle.cells.specs.Headers.{header-of, block-within};
 ghost use Rattle.faults.specs.declared.fault.HeaderFault.the-variants.{Size};
-use cells::cell::cell_at;
+use super::cell::cell_at;
 use faults::fault::HeaderFault;
 
 // The header's cells that are used: the total size, and where each block begins and how long it is.

@@ -6,10 +6,10 @@ use lib.Dec.{eqb, ltb, leb}
 use lib.ListN.{length}
 use Rattle.std.specs.declared.result.Result.{Result}
 use Rattle.std.specs.declared.result.Result.the-variants.{Ok, Err}
-use Rattle.fdt.specs.declared.header.Header.{Header}
+use Rattle.cells.specs.declared.header.Header.{Header}
 use Rattle.faults.specs.declared.fault.HeaderFault.{HeaderFault}
 use Rattle.faults.specs.declared.fault.HeaderFault.the-variants.{Size, Magic, Version, Blocks}
 use Rattle.cells.specs.Cells.{cell}
 
 -- a block begins past the header and ends by the total size
 abbrev pub block-within : ℕ → ℕ → ℕ → Bool
