@@ -1,0 +1,115 @@
+// What opening and the calls on an opened tree give, as text.
+use faults::fault::RouteFault;
+use faults::fault::TokenFault;
+use faults::report::Report;
+use std::alloc::AllocError;
+use std::alloc::Global;
+use tree::node::Node;
+use tree::tree::Tree;
+
+// Why a text ends early.
+pub enum Stop {
+    Fault(RouteFault),
+    Memory,
+}
+
+impl From<RouteFault> for Stop as StopFromRoute {
+    fn from(f: RouteFault) -> Stop {
+        Stop::Fault(f)
+    }
+}
+
+impl From<TokenFault> for Stop as StopFromToken {
+    fn from(f: TokenFault) -> Stop {
+        Stop::Fault(RouteFault::Token(f))
+    }
+}
+
+impl From<AllocError> for Stop as StopFromAlloc {
+    fn from(_e: AllocError) -> Stop {
+        Stop::Memory
+    }
+}
+
+// A refusal: layer, number and the two places.
+pub fn refusal(heap: Global, report: Report) -> Result<String, AllocError> {
+    let layer = report.layer;
+    let number = report.number;
+    let node = report.node.0;
+    let property = report.property.0;
+    format!(heap, "refused {layer} {number} {node} {property}")
+}
+
+fn place_of(node: Option<Node<'_>>) -> usize {
+    match node {
+        Some(node) => node.place.0,
+        None => 0,
+    }
+}
+
+// The places of the properties of a node.
+fn properties(heap: Global, tree: &Tree<'_>, node: &Node<'_>) -> Result<String, Stop> {
+    let mut text = String::new(heap);
+    let mut at = node.body.place;
+    loop {
+        let Some(property) = tree.property_from(at)? else {
+            return Ok(text);
+        };
+        let place = property.place.0;
+        let word = if text.is_empty() {
+            format!(heap, "{place}")?
+        } else {
+            format!(heap, " {place}")?
+        };
+        text.push_str(word.as_str())?;
+        at = property.next;
+    }
+}
+
+// A node: place, depth, the parent's place, the place of its first `reg`, and the places of its properties. The node at
+// its place is itself.
+fn describe<'a>(heap: Global, tree: &Tree<'a>, node: &Node<'a>) -> Result<String, Stop> {
+    let place = place_of(tree.node_at(node.place)?);
+    let depth = node.body.depth;
+    let parent = place_of(tree.parent(node)?);
+    let reg = match tree.property(node, b"reg")? {
+        Some(property) => property.place.0,
+        None => 0,
+    };
+    let all = properties(heap, tree, node)?;
+    Ok(format!(heap, " {place}:{depth}:{parent}:{reg}({all})")?)
+}
+
+// All nodes of an opened tree, each described, and how many there are.
+fn nodes(heap: Global, tree: &Tree<'_>) -> Result<(String, usize), Stop> {
+    let mut text = String::from_str(heap, "tree")?;
+    let mut count = 0usize;
+    let mut at = tree.start();
+    loop {
+        let Some(node) = tree.next_node(at)? else {
+            return Ok((text, count));
+        };
+        text.push_str(describe(heap, tree, &node)?.as_str())?;
+        count = count.saturating_add(1);
+        at = node.body;
+    }
+}
+
+// The nodes one by one, or only how many nodes and phandles there are.
+fn opened(heap: Global, bytes: &[u8], whole: bool) -> Result<String, Stop> {
+    let tree = Tree::open(bytes)?;
+    let (text, count) = nodes(heap, &tree)?;
+    let phandles = tree.phandles()?;
+    if whole {
+        return Ok(text);
+    }
+    Ok(format!(heap, "opens {count} {phandles}")?)
+}
+
+pub fn outcome(heap: Global, bytes: &[u8], whole: bool) -> Result<String, AllocError> {
+    match opened(heap, bytes, whole) {
+        Ok(text) => Ok(text),
+        Err(Stop::Fault(fault)) => refusal(heap, fault.report()),
+        Err(Stop::Memory) => Err(AllocError),
+    }
+}
