@@ -1,11 +1,13 @@
 // What opening and the calls on an opened tree give, as text.
 use faults::fault::RouteFault;
 use faults::fault::TokenFault;
+use faults::place::Place;
 use faults::report::Report;
 use std::alloc::AllocError;
 use std::alloc::Global;
 use tree::node::Node;
 use tree::tree::Tree;
+use tree::tree::phandles::one_cell;
 
 // Why a text ends early.
 pub enum Stop {
@@ -47,7 +49,7 @@ fn place_of(node: Option<Node<'_>>) -> usize {
     }
 }
 
-// The places of the properties of a node.
+// The properties of a node: the places of each, of its name and of its value, and the value's length.
 fn properties(heap: Global, tree: &Tree<'_>, node: &Node<'_>) -> Result<String, Stop> {
     let mut text = String::new(heap);
     let mut at = node.body.place;
@@ -56,20 +58,28 @@ fn properties(heap: Global, tree: &Tree<'_>, node: &Node<'_>) -> Result<String, 
             return Ok(text);
         };
         let place = property.place.0;
-        let word = if text.is_empty() {
-            format!(heap, "{place}")?
-        } else {
-            format!(heap, " {place}")?
-        };
+        let name = property.name.place.0;
+        let value = property.value.place.0;
+        let size = property.value.bytes.len();
+        let word = format!(heap, " {place}/{name}/{value}+{size}")?;
         text.push_str(word.as_str())?;
         at = property.next;
     }
 }
 
-// A node: place, depth, the parent's place, the place of its first `reg`, and the places of its properties. The node at
-// its place is itself.
+// The place of the node that has a node's phandle, 0 where it has none.
+fn by_phandle<'a>(tree: &Tree<'a>, node: &Node<'a>) -> Result<usize, Stop> {
+    match tree.property(node, b"phandle")? {
+        Some(property) => Ok(place_of(tree.node_of_phandle(one_cell(node.place, &property)?)?)),
+        None => Ok(0),
+    }
+}
+
+// A node: its place, by that place and by its phandle, depth, the parent's place, the place of its first `reg`, and its
+// properties.
 fn describe<'a>(heap: Global, tree: &Tree<'a>, node: &Node<'a>) -> Result<String, Stop> {
     let place = place_of(tree.node_at(node.place)?);
+    let handle = by_phandle(tree, node)?;
     let depth = node.body.depth;
     let parent = place_of(tree.parent(node)?);
     let reg = match tree.property(node, b"reg")? {
@@ -77,7 +87,18 @@ fn describe<'a>(heap: Global, tree: &Tree<'a>, node: &Node<'a>) -> Result<String
         None => 0,
     };
     let all = properties(heap, tree, node)?;
-    Ok(format!(heap, " {place}:{depth}:{parent}:{reg}({all})")?)
+    Ok(format!(heap, " {place}:{handle}:{depth}:{parent}:{reg}({all} )")?)
+}
+
+// At how many places below a size there is a node.
+fn places(tree: &Tree<'_>, size: usize) -> Result<usize, TokenFault> {
+    let mut count = 0usize;
+    for place in 0..size {
+        if tree.node_at(Place(place))?.is_some() {
+            count = count.saturating_add(1);
+        }
+    }
+    Ok(count)
 }
 
 // All nodes of an opened tree, each described, and how many there are.
@@ -100,7 +121,7 @@ fn opened(heap: Global, bytes: &[u8], whole: bool) -> Result<String, Stop> {
     let tree = Tree::open(bytes)?;
     let (text, count) = nodes(heap, &tree)?;
     let phandles = tree.phandles()?;
-    if whole {
+    if whole && places(&tree, bytes.len())? == count {
         return Ok(text);
     }
     Ok(format!(heap, "opens {count} {phandles}")?)

@@ -1,4 +1,5 @@
 // One row of a table: NAME | CELLS | PATCHES | STRINGS | OUTCOME.
+use super::blob::BadRow;
 use super::blob::blob;
 use super::outcome::outcome;
 use std::alloc::AllocError;
@@ -39,7 +40,11 @@ pub fn wrong_outcome(heap: Global, line: &str) -> Result<Option<String>, AllocEr
     let strings = fields.next().unwrap_or("").trim();
     let want = fields.next().unwrap_or("").trim();
     let whole = want.starts_with("tree");
-    let mut bytes = blob(heap, cells, strings, patches)?;
+    let mut bytes = match blob(heap, cells, strings, patches) {
+        Ok(bytes) => bytes,
+        Err(BadRow::Memory) => return Err(AllocError),
+        Err(BadRow::Word) => return Ok(Some(String::from_str(heap, "a word is not known")?)),
+    };
     let got = outcome(heap, bytes.as_slice(), whole)?;
     if got.as_str() != want {
         return Ok(Some(got));
