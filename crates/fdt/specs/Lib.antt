@@ -1,6 +1,5 @@
 pub mod Blobs
 pub mod Items
-pub mod Properties
 pub mod Reads
 pub mod Stands
 pub mod Tokens

@@ -13,7 +13,7 @@ use Rattle.std.specs.declared.result.Result.the-variants.{Ok, Err}
 use Rattle.std.proofs.shelf.Tests.{eqb-true, eqb-false, eq-eqb, ne-eqb, or-parts, or-from, and-from, and-right, both-ways}
 use Rattle.faults.specs.declared.fault.TokenFault.{TokenFault}
 use Rattle.fdt.specs.Tokens.{at, after}
-use Rattle.fdt.specs.Properties.{Owned}
+use Rattle.properties.specs.Properties.{Owned}
 use Rattle.faults.specs.declared.fault.RouteFault.{RouteFault}
 use Rattle.faults.specs.declared.fault.RouteFault.the-variants.{Token, Value, Phandle}
 use Rattle.tree.specs.Nodes.{Entry, Listed, listed, broken}

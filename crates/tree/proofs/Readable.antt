@@ -16,7 +16,7 @@ use Rattle.faults.specs.declared.fault.TokenFault.the-variants.{Rule, Depth}
 use Rattle.cells.specs.Cells.{Piece}
 use Rattle.fdt.specs.Tokens.{Word, opens, property, closes, nothing, ends, at}
 use Rattle.fdt.specs.Items.{Item, item, bad}
-use Rattle.fdt.specs.Properties.{Owned, sought}
+use Rattle.properties.specs.Properties.{Owned, sought}
 use Rattle.rules.specs.declared.walk.Walk.{Walk}
 use Rattle.rules.specs.declared.walk.Stage.the-variants.{Start, Properties as Owning, Subnodes, Finished}
 use Rattle.rules.specs.Rules.{walk, admitted, checked}

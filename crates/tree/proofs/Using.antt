@@ -12,7 +12,7 @@ use Rattle.std.specs.declared.result.Result.the-variants.{Ok, Err}
 use Rattle.faults.specs.declared.fault.TokenFault.{TokenFault}
 use Rattle.fdt.specs.Tokens.{after}
 use Rattle.cells.specs.declared.header.Header.{Header}
-use Rattle.fdt.specs.Properties.{Owned}
+use Rattle.properties.specs.Properties.{Owned}
 use Rattle.tree.specs.declared.node.Node.{Node}
 use Rattle.tree.specs.Nodes.{Entry, Listed, listed, broken, listed-by, node-seen, nodes-from, entry}
 use Rattle.tree.specs.Phandles.{phandle-of, phandle-checked, phandles-from, is-cell, used}

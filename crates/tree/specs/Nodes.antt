@@ -82,20 +82,3 @@ abbrev pub Goes-on : Header → ℕ → Result (Option Node) TokenFault → Type
 Goes-on h i (Ok None) = Unit {0}
 Goes-on h i (Ok (Some n)) = (i + 4 ≤ n .body .place .0) × (i + 4 ≤ ending h)
 Goes-on h i (Err f) = Unit {0}
-
--- the node at a place
-abbrev pub node-at : ℕ → List Listed → Result (Option Entry) TokenFault
-node-at p [] = Ok None
-node-at p (broken f ∷ es) = Err f
-node-at p (listed e ∷ es) = cond (eqb (e .place) p) (Ok (Some e)) (node-at p es)
-
--- the last node before the one at a place that is one less deep than it; `above` is the last so far
-abbrev pub parent-from : ℕ → ℕ → Option Entry → List Listed → Result (Option Entry) TokenFault
-parent-from p depth above [] = Ok None
-parent-from p depth above (broken f ∷ es) = Err f
-parent-from p depth above (listed e ∷ es) =
-    cond (eqb (e .place) p) (Ok above)
-    (parent-from p depth (cond (eqb (e .depth + 1) depth) (Some e) above) es)
-
-abbrev pub parent-of : ℕ → ℕ → List Listed → Result (Option Entry) TokenFault
-parent-of p depth es = parent-from p depth None es

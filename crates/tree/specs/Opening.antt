@@ -15,7 +15,7 @@ use Rattle.faults.specs.declared.fault.TokenFault.the-variants as fault
 use Rattle.fdt.specs.Blobs.{Source, source, blob-of}
 use Rattle.cells.specs.Headers.{header-of}
 use Rattle.fdt.specs.Items.{all-items}
-use Rattle.fdt.specs.Properties.{Owned, sought}
+use Rattle.properties.specs.Properties.{Owned, sought}
 use Rattle.fdt.specs.Tokens.{after, ending}
 use Rattle.fdt.specs.Unread.{Same, Same-items}
 use Rattle.faults.specs.declared.fault.RouteFault.{RouteFault}

@@ -12,7 +12,7 @@ use Rattle.std.specs.declared.result.Result.the-variants.{Ok, Err}
 use Rattle.faults.specs.declared.fault.TokenFault.{TokenFault}
 use Rattle.cells.specs.Cells.{cell}
 use Rattle.fdt.specs.Tokens.{at, after}
-use Rattle.fdt.specs.Properties.{Owned, sought}
+use Rattle.properties.specs.Properties.{Owned, sought}
 use Rattle.faults.specs.declared.place.At.{At}
 use Rattle.faults.specs.declared.fault.RouteFault.{RouteFault}
 use Rattle.faults.specs.declared.fault.RouteFault.the-variants.{Token, Value, Phandle}

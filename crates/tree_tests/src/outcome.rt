@@ -3,6 +3,8 @@ use faults::fault::RouteFault;
 use faults::fault::TokenFault;
 use faults::place::Place;
 use faults::report::Report;
+use nodes::node_at;
+use nodes::parent;
 use std::alloc::AllocError;
 use std::alloc::Global;
 use tree::node::Node;
@@ -78,10 +80,10 @@ fn by_phandle<'a>(tree: &Tree<'a>, node: &Node<'a>) -> Result<usize, Stop> {
 // A node: its place, by that place and by its phandle, depth, the parent's place, the place of its first `reg`, and its
 // properties.
 fn describe<'a>(heap: Global, tree: &Tree<'a>, node: &Node<'a>) -> Result<String, Stop> {
-    let place = place_of(tree.node_at(node.place)?);
+    let place = place_of(node_at(tree, node.place)?);
     let handle = by_phandle(tree, node)?;
     let depth = node.body.depth;
-    let parent = place_of(tree.parent(node)?);
+    let parent = place_of(parent(tree, node)?);
     let reg = match tree.property(node, b"reg")? {
         Some(property) => property.place.0,
         None => 0,
@@ -94,7 +96,7 @@ fn describe<'a>(heap: Global, tree: &Tree<'a>, node: &Node<'a>) -> Result<String
 fn places(tree: &Tree<'_>, size: usize) -> Result<usize, TokenFault> {
     let mut count = 0usize;
     for place in 0..size {
-        if tree.node_at(Place(place))?.is_some() {
+        if node_at(tree, Place(place))?.is_some() {
             count = count.saturating_add(1);
         }
     }
@@ -102,7 +104,7 @@ fn places(tree: &Tree<'_>, size: usize) -> Result<usize, TokenFault> {
 }
 
 // All nodes of an opened tree, each described, and how many there are.
-fn nodes(heap: Global, tree: &Tree<'_>) -> Result<(String, usize), Stop> {
+fn list(heap: Global, tree: &Tree<'_>) -> Result<(String, usize), Stop> {
     let mut text = String::from_str(heap, "tree")?;
     let mut count = 0usize;
     let mut at = tree.start();
@@ -119,7 +121,7 @@ fn nodes(heap: Global, tree: &Tree<'_>) -> Result<(String, usize), Stop> {
 // The nodes one by one, or only how many nodes and phandles there are.
 fn opened(heap: Global, bytes: &[u8], whole: bool) -> Result<String, Stop> {
     let tree = Tree::open(bytes)?;
-    let (text, count) = nodes(heap, &tree)?;
+    let (text, count) = list(heap, &tree)?;
     let phandles = tree.phandles()?;
     if whole && places(&tree, bytes.len())? == count {
         return Ok(text);

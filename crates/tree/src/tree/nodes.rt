@@ -1,14 +1,16 @@
 ghost use mathlib.Core.Path.{_≡_};
-ghost use Rattle.fdt.specs.Properties.{Property-goes, property-seen, first-property, sought};
-ghost use Rattle.tree.specs.Nodes.{Goes-on, first-node, listed-by, node-at, parent-of};
+ghost use Rattle.properties.specs.Properties.{Property-goes, property-seen, first-property, sought};
+ghost use Rattle.tree.specs.Nodes.{Goes-on, first-node, listed-by};
 ghost use Rattle.tree.specs.Reads.{node-in, nodes-in, nodes-of, tokens-in};
 use super::Tree;
 use crate::node::Node;
 use faults::fault::TokenFault;
 use faults::place::Place;
 use fdt::cursor::Cursor;
-use fdt::cursor::Property;
 use fdt::token::Token;
+use properties::Property;
+use properties::look_ahead;
+use properties::property_from;
 
 impl<'a> Tree<'a> {
     // Before the first token.
@@ -58,48 +60,12 @@ impl<'a> Tree<'a> {
         }
     }
 
-    // The node whose open token stands at a place.
-    pub fn node_at(&self, place: Place) -> Result<Option<Node<'a>>, TokenFault>
-        ensures { λ r. ⌜ node-in (now (self .entry)) r ≡ node-at (place .0) (nodes-of (now (self .entry))) ⌝ }
-    {
-        let mut at = self.start();
-        loop {
-            let Some(node) = self.next_node(at)? else {
-                return Ok(None);
-            };
-            if node.place.0 == place.0 {
-                return Ok(Some(node));
-            }
-            at = node.body;
-        }
-    }
-
-    // The node that a node is a subnode of; none for the root.
-    pub fn parent(&self, node: &Node<'a>) -> Result<Option<Node<'a>>, TokenFault>
-        ensures { λ r. ⌜ node-in (now (self .entry)) r ≡ parent-of (now (node .entry) .place .0) (now (node .entry) .body .depth) (nodes-of (now (self .entry))) ⌝ }
-    {
-        let mut above = None;
-        let mut at = self.start();
-        loop {
-            let Some(next) = self.next_node(at)? else {
-                return Ok(None);
-            };
-            if next.place.0 == node.place.0 {
-                return Ok(above);
-            }
-            if next.body.depth < node.body.depth && node.body.depth - next.body.depth == 1 {
-                above = Some(next);
-            }
-            at = next.body;
-        }
-    }
-
     // The first property from a place on, of the node that the place is in.
     pub fn property_from(&self, place: Place) -> Result<Option<Property<'a>>, TokenFault>
         ensures goes { λ r. ⌜ Property-goes (now (self .entry) .blob .header) (place .0) r ⌝ }
         ensures is { λ r. ⌜ property-seen r ≡ first-property (tokens-in (now (self .entry)) (place .0)) ⌝ }
     {
-        self.blob.property_from(place)
+        property_from(&self.blob, place)
     }
 
     // The first property of this name of a node.
@@ -107,6 +73,6 @@ impl<'a> Tree<'a> {
         ensures { λ r. ⌜ property-seen r ≡ sought (now (name .entry)) (tokens-in (now (self .entry)) (now (node .entry) .body .place .0)) ⌝ }
     {
         let mut cursor = node.body;
-        self.blob.look_ahead(&mut cursor, name)
+        look_ahead(&self.blob, &mut cursor, name)
     }
 }

@@ -1,6 +1,6 @@
 ghost use mathlib.Core.Path.{_≡_};
 ghost use lib.ListN.{take};
-ghost use Rattle.fdt.specs.Properties.{option-seen, owned, property-seen};
+ghost use Rattle.properties.specs.Properties.{option-seen, owned, property-seen};
 ghost use Rattle.tree.specs.Reads.{entry-in, node-in, nodes-of};
 ghost use Rattle.tree.specs.Phandles.{is-cell, one-cell, phandle-checked, phandle-of, phandles, used, with-phandle};
 use super::Tree;
@@ -11,7 +11,7 @@ use faults::fault::RouteFromToken;
 use faults::fault::TokenFault;
 use faults::place::At;
 use faults::place::Place;
-use fdt::cursor::Property;
+use properties::Property;
 
 // The one cell of a property of a node; 8 where its value is not one cell.
 pub fn one_cell(node: Place, property: &Property<'_>) -> Result<u32, RouteFault>

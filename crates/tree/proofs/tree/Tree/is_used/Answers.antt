@@ -5,7 +5,7 @@ use lib.ListN.{take}
 use Prim.Native.Nat.{_-_}
 use Rattle.std.proofs.shelf.Results.{err-from-errBy}
 use Rattle.std.specs.declared.result.Result.the-variants.{Ok, Err}
-use Rattle.fdt.specs.Properties.{property-seen}
+use Rattle.properties.specs.Properties.{property-seen}
 use Rattle.tree.specs.Nodes.{nodes-from, entry}
 use Rattle.tree.specs.Phandles.{used}
 use Rattle.tree.proofs.Using.{used-end, used-broken, used-turn, listed-some, listed-none}

@@ -7,12 +7,12 @@ use Rattle.std.specs.declared.option.Option.the-variants.{Some, None}
 use Rattle.std.specs.declared.result.Result.{Result}
 use Rattle.std.specs.declared.result.Result.the-variants.{Ok, Err}
 use Rattle.std.specs.shelf.Text.{sameBytes}
-use Rattle.fdt.specs.declared.cursor.Property.{Property}
+use Rattle.properties.specs.declared.Property.{Property}
 use Rattle.cells.specs.declared.header.Header.{Header}
 use Rattle.faults.specs.declared.fault.TokenFault.{TokenFault}
 use Rattle.cells.specs.Cells.{Piece, piece}
 use Rattle.fdt.specs.Tokens.{Word, opens, property, closes, nothing, ends, ending}
 use Rattle.fdt.specs.Items.{Item, item, bad}
 
 -- a property: the place of its token, its name and its value, and the place of the next token
 pub record Owned : Type 0 where
