@@ -2,14 +2,10 @@ ghost use mathlib.Core.Path.{_≡_};
 ghost use Rattle.faults.specs.declared.fault.RouteFault.the-variants.{Token};
 ghost use Rattle.faults.specs.declared.fault.TokenFault.the-variants.{Header};
 use super::place::At;
-use super::place::AtDebug;
-use super::place::AtPartialEq;
 use super::place::Place;
-use super::place::PlaceDebug;
-use super::place::PlacePartialEq;
 
 // Why a header is refused, in the order of testing.
-#[derive(Clone, Copy, PartialEq, Eq, Debug)]
+#[derive(Clone, Copy)]
 pub enum HeaderFault {
     // Fewer than 40 bytes, or a total size under 40, over 65,536 or over the bytes handed in.
     Size,
@@ -22,7 +18,7 @@ pub enum HeaderFault {
 }
 
 // Why the tokens are refused, each with the place of the token; the smaller number counts.
-#[derive(Clone, Copy, PartialEq, Eq, Debug)]
+#[derive(Clone, Copy)]
 pub enum TokenFault {
     // The header's fault, held whole.
     Header(HeaderFault),
@@ -43,7 +39,7 @@ pub impl From<HeaderFault> for TokenFault as TokenFromHeader {
 }
 
 // Why a tree is not opened, or a specifier has no route.
-#[derive(Clone, Copy, PartialEq, Eq, Debug)]
+#[derive(Clone, Copy)]
 pub enum RouteFault {
     // The fault of the tokens or of the header, held whole.
     Token(TokenFault),

@@ -3,7 +3,7 @@
 pub struct Place(pub usize);
 
 // Where a fault was met: the node whose property was read or missed, and the property's place, 0 where it was missed.
-#[derive(Clone, Copy, PartialEq, Eq, Debug)]
+#[derive(Clone, Copy)]
 pub struct At {
     pub node: Place,
     pub property: Place,

@@ -1,5 +1,5 @@
-pub mod Handles
-pub mod Opening
-pub mod Readable
-pub mod Using
-pub mod Unread
+mod Handles
+mod Opening
+mod Readable
+mod Using
+mod Unread
