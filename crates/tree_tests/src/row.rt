@@ -6,24 +6,19 @@ use std::alloc::AllocError;
 use std::alloc::Global;
 
 // Whether every front of a short blob is refused for its size, and more bytes behind it change nothing.
-fn cut_well(
-    heap: Global,
-    bytes: &mut Vec<u8>,
-    whole: bool,
-    want: &str,
-) -> Result<bool, AllocError> {
+fn cut_well(heap: Global, bytes: &mut Vec<u8>, want: &str) -> Result<bool, AllocError> {
     if bytes.len() > 400 || want.starts_with("refused") {
         return Ok(true);
     }
     for n in 0..bytes.len() {
-        let front = outcome(heap, &bytes.as_slice()[0..n], whole)?;
+        let front = outcome(heap, &bytes.as_slice()[0..n])?;
         if front.as_str() != "refused 1 1 0 0" {
             return Ok(false);
         }
     }
     for more in [0, 9, 255] {
         bytes.push(more)?;
-        let longer = outcome(heap, bytes.as_slice(), whole)?;
+        let longer = outcome(heap, bytes.as_slice())?;
         if longer.as_str() != want {
             return Ok(false);
         }
@@ -39,17 +34,16 @@ pub fn wrong_outcome(heap: Global, line: &str) -> Result<Option<String>, AllocEr
     let patches = fields.next().unwrap_or("").trim();
     let strings = fields.next().unwrap_or("").trim();
     let want = fields.next().unwrap_or("").trim();
-    let whole = want.starts_with("tree");
     let mut bytes = match blob(heap, cells, strings, patches) {
         Ok(bytes) => bytes,
         Err(BadRow::Memory) => return Err(AllocError),
         Err(BadRow::Word) => return Ok(Some(String::from_str(heap, "a word is not known")?)),
     };
-    let got = outcome(heap, bytes.as_slice(), whole)?;
+    let got = outcome(heap, bytes.as_slice())?;
     if got.as_str() != want {
         return Ok(Some(got));
     }
-    if patches.is_empty() && !cut_well(heap, &mut bytes, whole, want)? {
+    if patches.is_empty() && !cut_well(heap, &mut bytes, want)? {
         return Ok(Some(String::from_str(heap, "a front or a longer string gives something else")?));
     }
     Ok(None)
