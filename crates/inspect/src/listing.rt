@@ -43,6 +43,7 @@ impl<T: Drop> From<Refused<T>> for Stop as StopFromRefused {
 struct Counts {
     nodes: usize,
     properties: usize,
+    phandles: usize,
 }
 
 // The path of a node: the names from the root down, with where each ends.
@@ -91,6 +92,7 @@ fn list_nodes(heap: Global, tree: &Tree<'_>, out: &mut Vec<u8>) -> Result<Counts
     let mut counts = Counts {
         nodes: 0,
         properties: 0,
+        phandles: 0,
     };
     let mut at = tree.start();
     loop {
@@ -103,6 +105,9 @@ fn list_nodes(heap: Global, tree: &Tree<'_>, out: &mut Vec<u8>) -> Result<Counts
         counts.properties = counts
             .properties
             .saturating_add(count_properties(tree, &node)?);
+        if tree.property(&node, b"phandle")?.is_some() {
+            counts.phandles = counts.phandles.saturating_add(1);
+        }
         at = node.body;
     }
 }
@@ -125,9 +130,9 @@ fn list_node(heap: Global, node: &Node<'_>, path: &[u8], out: &mut Vec<u8>) -> R
 fn list_tree(heap: Global, bytes: &[u8], out: &mut Vec<u8>) -> Result<(), Stop> {
     let tree = Tree::open(bytes)?;
     let counts = list_nodes(heap, &tree, out)?;
-    let phandles = tree.phandles()?;
     let nodes = counts.nodes;
     let properties = counts.properties;
+    let phandles = counts.phandles;
     let line = format!(
         heap,
         "opened: {nodes} nodes, {properties} properties, {phandles} phandles\n"

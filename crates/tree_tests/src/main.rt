@@ -1,15 +1,13 @@
 //! Opens the blobs of the tables that the arguments name. Each row says what it should give, worked out by hand from
-//! docs/FORMAT.md and docs/REFUSALS.md; a row that gives something else is printed. Then the report of every fault.
+//! docs/FORMAT.md and docs/REFUSALS.md; a row that gives something else is printed.
 use std::env;
 use std::fs;
 use std::io;
 
 mod blob;
-mod faults_list;
 mod outcome;
 mod row;
 
-use faults_list::print_reports;
 use row::wrong_outcome;
 
 // How many rows a table has; those that give something else than they say are printed.
@@ -35,5 +33,5 @@ fn main(rt: LibcRuntime) -> io::Result<()> {
         let rows = check_table(&rt, text.as_str())?;
         println!(rt, "{name}: {rows} rows")?;
     }
-    print_reports(&rt)
+    Ok(())
 }

@@ -7,7 +7,7 @@ use std::alloc::Global;
 use tree::tree::Tree;
 
 // A refusal: layer, number and the two places.
-pub fn refusal(heap: Global, report: Report) -> Result<String, AllocError> {
+fn refusal(heap: Global, report: Report) -> Result<String, AllocError> {
     let layer = report.layer;
     let number = report.number;
     let node = report.node.0;
@@ -18,14 +18,17 @@ pub fn refusal(heap: Global, report: Report) -> Result<String, AllocError> {
 // How many nodes and phandles a blob has.
 fn counts(bytes: &[u8]) -> Result<(usize, usize), RouteFault> {
     let tree = Tree::open(bytes)?;
-    let phandles = tree.phandles()?;
     let mut nodes = 0usize;
+    let mut phandles = 0usize;
     let mut at = tree.start();
     loop {
         let Some(node) = tree.next_node(at)? else {
             return Ok((nodes, phandles));
         };
         nodes = nodes.saturating_add(1);
+        if tree.property(&node, b"phandle")?.is_some() {
+            phandles = phandles.saturating_add(1);
+        }
         at = node.body;
     }
 }

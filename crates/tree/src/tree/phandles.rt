@@ -106,7 +106,7 @@ impl<'a> Tree<'a> {
     }
 
     // How many nodes have a phandle; in blob order the first that is refused, 8 or 9.
-    pub fn phandles(&self) -> Result<usize, RouteFault>
+    pub(crate) fn phandles(&self) -> Result<usize, RouteFault>
         ensures { λ r. ⌜ r ≡ phandles (nodes-of (now (self .entry))) ⌝ }
     {
         let mut found = 0;
