@@ -1,5 +1,7 @@
 //! A timer on a status mux, which is cascaded into a PLIC, which is cascaded into an 8259A: the timer's line is unmasked,
 //! raised, claimed and completed, and each step is printed in words. Which two are cascaded first makes no difference.
+#![tactic(auto)]
+
 use cascade::pair::Cascade;
 use i8259::chip::I8259;
 use plic::chip::Plic;

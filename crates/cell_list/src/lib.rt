@@ -1,4 +1,6 @@
 //! A value that is made of cells, as the list of their numbers. The definitions are in specs/CellLists.antt.
+#![tactic(auto)]
+
 ghost use Rattle.std.specs.Prelude.{◌≡◌, ◌+◌, ◌-◌, ◌*◌, ◌/◌, ◌^◌, ◌<◌, ◌≤◌, length, take, drop, slice_index};
 ghost use Rattle.cell_list.specs.CellLists.{cells_in, cells_of};
 ghost use Rattle.cells.specs.Cells.{cell};

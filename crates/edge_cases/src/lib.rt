@@ -1,5 +1,7 @@
 //! The cases at the edges, as one list in specs/Cases.antt, and one proof that the definitions which the other crates' contracts cite
 //! give every one of them.
+#![tactic(auto)]
+
 ghost use Rattle.std.specs.Prelude.{◌≡◌, length};
 ghost use Rattle.edge_cases.specs.Cases.{AllHold, cases};
 

@@ -1,5 +1,7 @@
 //! Prints what is in the devicetree blobs that the arguments name: the nodes in blob order and how much there is, or
 //! the refusal. A thin program over the crate `tree`.
+#![tactic(auto)]
+
 use std::io::Write;
 use std::{env, fs, io};
 

@@ -1,5 +1,7 @@
 //! The interrupt parent of a node: the first candidate that has `#interrupt-cells`, of at most 64.
 //! The definitions are in specs/Parents.antt.
+#![tactic(auto)]
+
 ghost use Rattle.std.specs.Prelude.{◌≡◌, ◌-◌, ◌<◌, OnOk};
 ghost use Rattle.interrupt_parent.specs.Parents.{candidate, interrupt_parent, look_at, looked_by, looked_in, parent_within};
 ghost use Rattle.tree.specs.Reads.{entry_in, nodes_of};

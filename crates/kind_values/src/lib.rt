@@ -1,6 +1,8 @@
 //! The properties by which the kind and the width of a controller are known, checked when they are read: `compatible`,
 //! `riscv,ndev` and `factory,inputs`. A wrong length or value is 8, with the places of the node and the property.
 //! The definitions are in specs/Kinds.antt.
+#![tactic(auto)]
+
 ghost use Rattle.std.specs.Prelude.{◌≡◌};
 ghost use Rattle.kind_values.specs.Kinds.{compatible, inputs, ndev, strings_by, strings_in, strings_option};
 ghost use Rattle.properties.specs.Properties.{owned};

@@ -1,4 +1,6 @@
 //! Finding nodes of an opened tree: by place, and the parent of a node. The definitions are in specs/Finding.antt.
+#![tactic(auto)]
+
 ghost use Rattle.std.specs.Prelude.{◌≡◌};
 ghost use Rattle.nodes.specs.Finding.{node_at, parent_of};
 ghost use Rattle.tree.specs.Reads.{node_in, nodes_of};

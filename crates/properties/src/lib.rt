@@ -1,5 +1,7 @@
 //! The properties of a node: the first from a place on, and the look-ahead for one of a name, which leaves the walk's cursor as it
 //! was. The definitions are in specs/Properties.antt.
+#![tactic(auto)]
+
 ghost use Rattle.std.specs.Prelude.{◌≡◌};
 ghost use Rattle.fdt.specs.Reads.{tokens_of};
 ghost use Rattle.properties.specs.Properties.{PropertyGoes, first_property, property_seen, sought};

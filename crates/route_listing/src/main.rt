@@ -1,5 +1,7 @@
 //! Prints what is in the devicetree blobs that the arguments name: the nodes in blob order, how much there is, and where
 //! each interrupt ends; or the refusal. A thin program over the crates `tree`, `specifiers` and `routing`.
+#![tactic(auto)]
+
 use std::io::Write;
 use std::{env, fs, io};
 

@@ -1,5 +1,7 @@
 //! Where a specifier ends: the route to a controller's node, or the fault with which its walk stops.
 //! specs/Leads.antt says in the subject's words what leads where, and the answer is a route exactly if the specifier leads to it.
+#![tactic(auto)]
+
 ghost use Rattle.std.specs.Prelude.{◌≡◌};
 ghost use Rattle.routing.specs.Leads.{Answers};
 ghost use Rattle.specifiers.specs.Specifiers.{specified};

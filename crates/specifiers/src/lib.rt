@@ -1,5 +1,7 @@
 //! The specifiers of a node, cut one after another from its `interrupts-extended` or its `interrupts`.
 //! The definitions are in specs/Specifiers.antt.
+#![tactic(auto)]
+
 ghost use Rattle.std.specs.Prelude.{◌≡◌, length};
 ghost use Rattle.cell_list.specs.CellLists.{cells_in};
 ghost use Rattle.specifiers.specs.Cuts.{cuts_by, specifiers_in};

@@ -1,5 +1,7 @@
 //! Opens the blobs of the tables that the arguments name. Each row says what it should give, worked out by hand from
 //! docs/FORMAT.md and docs/REFUSALS.md; a row that gives something else is printed.
+#![tactic(auto)]
+
 use std::{env, fs, io};
 
 mod blob;

@@ -1,5 +1,7 @@
 //! Runs the walks of the files that the arguments name: each builds a controller and makes calls on it, and what every
 //! call gives is printed. The files and the text that they have to give are written by the model (tools/model).
+#![tactic(auto)]
+
 use std::{env, fs, io};
 
 mod calls;
