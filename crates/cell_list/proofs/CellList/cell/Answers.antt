@@ -11,4 +11,4 @@ returns-then-i-count c =
     sym (get_or_past (cells_of b) c.args.i 0 (omega arith))
 
 pub returns : goal.returns
-returns c = c.cell-of-bytes.ensures ∙ sym (cell_is c.args.self.now.bytes.now c.args.i (omega arith))
+returns c = c.cell_of_bytes.ensures ∙ sym (cell_is c.args.self.now.bytes.now c.args.i (omega arith))

@@ -8,4 +8,4 @@ pub returns : goal.returns
 returns c =
     let b = c.args.self.now.bytes.now in
     let es : c.min.result ≡ min c.args.from (length b / 4) = c.min.ensures ∙ ap (min c.args.from) c.count.ensures.is in
-    ap cells_of (c.bytes-from.ensures ∙ take_rest b (4 * c.min.result)) ∙ rest_is b c.args.from c.min.result es
+    ap cells_of (c.bytes_from.ensures ∙ take_rest b (4 * c.min.result)) ∙ rest_is b c.args.from c.min.result es

@@ -3,6 +3,6 @@ use Rattle.history.proofs.device.kept_up.Goals as goal
 
 pub returns : goal.returns
 returns c = record {
-  is = c.rests-throughout.ensures;
-  exactly = kept_exactly c.args.sense c.args.device c.args.events.now c.rests-throughout.result c.rests-throughout.ensures;
+  is = c.rests_throughout.ensures;
+  exactly = kept_exactly c.args.sense c.args.device c.args.events.now c.rests_throughout.result c.rests_throughout.ensures;
 }

@@ -8,13 +8,13 @@ use Rattle.history.proofs.device.rests_throughout.Goals as goal
 pub loop-event-preserved : goal.loop-event-preserved
 loop-event-preserved c =
     keeps_more c.args.device c.args.events.now c.loop-event.event-index _ (row_of c.loop-event.line) (row_of c.next-line.result)
-    c.loop-event-test.true c.next-line.ensures c.if-not-in-time.ensures
+    c.loop-event-test.true c.next-line.ensures c.if-not-in_time.ensures
     ∙ c.loop-event.invariant
 
-pub returns-then-not-in-time : goal.returns-then-not-in-time
-returns-then-not-in-time c =
+pub returns-then-not-in_time : goal.returns-then-not-in_time
+returns-then-not-in_time c =
     keeps_not c.args.device c.args.events.now c.loop-event.event-index _ (row_of c.loop-event.line) c.loop-event-test.true
-    c.if-not-in-time.ensures
+    c.if-not-in_time.ensures
     ∙ c.loop-event.invariant
     ∙ ap (λ r. keeps_from c.args.device r c.args.events.now) c.fresh-line.ensures
 

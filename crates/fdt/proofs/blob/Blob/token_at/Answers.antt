@@ -18,11 +18,11 @@ returns c =
     let b = c.args.self.now.bytes.now in
     let h = c.args.self.now.header in
     let i = c.args.place.0 in
-    let e = c.read-token.ensures in
+    let e = c.read_token.ensures in
     record {
       is = e;
-      stands = token_stands b h i (step_seen c.read-token.result) e;
-      decided = decided b h i (step_seen c.read-token.result) e;
-      goes = step_goes b h i c.read-token.result e;
+      stands = token_stands b h i (step_seen c.read_token.result) e;
+      decided = decided b h i (step_seen c.read_token.result) e;
+      goes = step_goes b h i c.read_token.result e;
       rest = items_is b h i ∙ ap (more (items b h) i) (sym e);
     }

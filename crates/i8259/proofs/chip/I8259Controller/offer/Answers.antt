@@ -9,6 +9,6 @@ pub returns : goal.returns
 returns c =
     let ls = table_lines c.args.self.now.table in
     record {
-      is = c.highest-request.ensures;
-      exactly = subst (λ (o : Option ℕ). OfferedBy (LowestUnserved ls) o) (sym c.highest-request.ensures) (i8259_exactly ls);
+      is = c.highest_request.ensures;
+      exactly = subst (λ (o : Option ℕ). OfferedBy (LowestUnserved ls) o) (sym c.highest_request.ensures) (i8259_exactly ls);
     }

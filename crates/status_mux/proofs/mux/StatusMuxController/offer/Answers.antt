@@ -9,6 +9,6 @@ pub returns : goal.returns
 returns c =
     let ls = table_lines c.args.self.now.table in
     record {
-      is = c.lowest-waiting.ensures;
-      exactly = subst (λ (o : Option ℕ). OfferedBy (LowestWaiting ls) o) (sym c.lowest-waiting.ensures) (mux_exactly ls);
+      is = c.lowest_waiting.ensures;
+      exactly = subst (λ (o : Option ℕ). OfferedBy (LowestWaiting ls) o) (sym c.lowest_waiting.ensures) (mux_exactly ls);
     }

@@ -10,8 +10,8 @@ pub loop-i-preserved : goal.loop-i-preserved
 loop-i-preserved c =
     let ls = table_lines c.args.self.now in
     let h : c.loop-i.i < length (table_lines c.args.self.now) = omega arith in (
-      c.step-line.ensures.sound,
-      rw add-one (c.step-line.ensures.steps ∙ ap (λ (xs : List (Option Row)). step_at Reset xs c.loop-i.i) c.loop-i.invariant.1 ∙ reset_more ls c.loop-i.i h),
+      c.step_line.ensures.sound,
+      rw add-one (c.step_line.ensures.steps ∙ ap (λ (xs : List (Option Row)). step_at Reset xs c.loop-i.i) c.loop-i.invariant.1 ∙ reset_more ls c.loop-i.i h),
     )
 
 pub returns : goal.returns

@@ -4,8 +4,8 @@ use Rattle.table.specs.Tables.{table_lines}
 use Rattle.table.proofs.Reading.{lines_length, lines_set, made_same}
 use Rattle.table.proofs.rows.Table.store.Goals as goal
 
-pub offset-bounds-self-i : goal.offset-bounds-self-i
-offset-bounds-self-i c = let t = c.args.self.now in omega (arith, lines_length t.wide t.rows, c.requires.0, c.requires.1)
+pub offset_bounds-self-i : goal.offset_bounds-self-i
+offset_bounds-self-i c = let t = c.args.self.now in omega (arith, lines_length t.wide t.rows, c.requires.0, c.requires.1)
 
 pub bounds-self-i : goal.bounds-self-i
 bounds-self-i c = let t = c.args.self.now in omega (arith, lines_length t.wide t.rows, c.requires.0, c.requires.1)
