@@ -12,6 +12,6 @@ returns c =
     let e = entry_in t c.args.node.now in
     let left = c.args.left in
     record {
-      some = c.look-at.ensures.some;
-      rest = looked_once left es device e ∙ ap (looked_by (parent_within (left - 1) es device)) (sym c.look-at.ensures.is);
+      some = c.look_at.ensures.some;
+      rest = looked_once left es device e ∙ ap (looked_by (parent_within (left - 1) es device)) (sym c.look_at.ensures.is);
     }

@@ -6,5 +6,5 @@ pub returns : goal.returns
 returns c =
     record {
       is = search rules;
-      goes = omega (arith, simp length-drop at (ap length c.rest.ensures), c.in-ok-this.ensures.some);
+      goes = omega (arith, simp length-drop at (ap length c.rest.ensures), c.in_ok-this.ensures.some);
     }
