@@ -11,7 +11,7 @@ returns c =
     let es = nodes_of t in
     let u = uncut t c.args.from.now in
     record {
-      is = c.cut-next.ensures;
-      goes = goes_by t es u c.cut-next.result c.cut-next.ensures;
-      rest = specifiers_is es u ∙ ap (cuts_by (specifiers_in es)) (sym c.cut-next.ensures);
+      is = c.cut_next.ensures;
+      goes = goes_by t es u c.cut_next.result c.cut_next.ensures;
+      rest = specifiers_is es u ∙ ap (cuts_by (specifiers_in es)) (sym c.cut_next.ensures);
     }
