@@ -15,7 +15,7 @@ use Rattle.values.specs.Values.{has, property_of}
 use Rattle.walk.specs.declared.hops.Hop.{Hop}
 use Rattle.walk.specs.Walks.{Found, Next, hop, ended, at_node, onward, arrived, route_of}
 use Rattle.routing.specs.Leads.{Takes, IsNexus, Leads, ends, goes, Stops, unread, unread_map, neither, unfit, stuck, ninth, further, LeadsTo, Answers}
-use Rattle.routing.proofs.Taking.{no_result, found_row, not_found, SomeRow, NoRow, either}
+use Rattle.routing.proofs.Taking.{no_result, found_row, not_found, SomeRow, NoneTaken, either}
 
 module _ (es : List Listed) (s : Specified) where
   abbrev Given : Type 0
@@ -98,7 +98,7 @@ module _ (es : List Listed) (s : Specified) where
     -- by the row that a nexus takes
     module _ (n : Ready) (w : IsNexus s.device e given cells n) where
       abbrev Rows : Type 0
-      Rows = SomeRow es n n.map ⊎ NoRow es n n.map
+      Rows = SomeRow es n n.map ⊎ NoneTaken es n n.map
 
       no_rows : Rows → Either zero e given cells
       no_rows (inl t) = inr (record { why = TooManyRows n.holder; stops = ninth e given cells n t.row t.to t.unit t.out w t.takes })

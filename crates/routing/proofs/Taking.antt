@@ -149,7 +149,7 @@ module _ (es : List Listed) (n : Ready) where
     pub out : List ℕ
     pub takes : Takes es n xs row to unit out
 
-  pub record NoRow (xs : List ℕ) : Type 0 where
+  pub record NoneTaken (xs : List ℕ) : Type 0 where
     pub why : RouteFault
     pub fails : Fails es n xs why
 
@@ -190,10 +190,10 @@ module _ (es : List Listed) (n : Ready) where
     shorter = let a = w.wide in simp length-drop (omega arith)
 
     abbrev Either : List ℕ → Type 0
-    Either ys = SomeRow ys ⊎ NoRow ys
+    Either ys = SomeRow ys ⊎ NoneTaken ys
 
     on_this : matches n (take n.width xs) ≡ true → Either xs
-    on_this m = subst (λ (ys : List ℕ). SomeRow ys ⊎ NoRow ys) again
+    on_this m = subst (λ (ys : List ℕ). SomeRow ys ⊎ NoneTaken ys) again
         (inl (record { row = 0; to = w.parent; unit = unit_part; out = specifier_part; takes = this _ _ _ _ _ left is_row (same_true (take n.width xs) (masked n) m) }))
 
     later_row : matches n (take n.width xs) ≡ false → Either left → Either (row_cells (take n.width xs) (get_or xs n.width 0) unit_part specifier_part left)
@@ -207,10 +207,10 @@ module _ (es : List Listed) (n : Ready) where
     later_row m (inr t) = inr (record { why = t.why; fails = passed _ _ _ _ _ left t.why is_row (differs n (take n.width xs) m) t.fails })
 
     on_later : matches n (take n.width xs) ≡ false → Either left → Either xs
-    on_later m t = subst (λ (ys : List ℕ). SomeRow ys ⊎ NoRow ys) again (later_row m t)
+    on_later m t = subst (λ (ys : List ℕ). SomeRow ys ⊎ NoneTaken ys) again (later_row m t)
 
-  on_read : (m : ℕ) → ((ys : List ℕ) → length ys ≤ m → SomeRow ys ⊎ NoRow ys) → (x : ℕ) (xs : List ℕ) → length (x ∷ xs) ≤ suc m
-      → (q : Result RowSeen RouteFault) → row_at es n (x ∷ xs) ≡ q → (t : Bool) → matches n (take n.width (x ∷ xs)) ≡ t → SomeRow (x ∷ xs) ⊎ NoRow (x ∷ xs)
+  on_read : (m : ℕ) → ((ys : List ℕ) → length ys ≤ m → SomeRow ys ⊎ NoneTaken ys) → (x : ℕ) (xs : List ℕ) → length (x ∷ xs) ≤ suc m
+      → (q : Result RowSeen RouteFault) → row_at es n (x ∷ xs) ≡ q → (t : Bool) → matches n (take n.width (x ∷ xs)) ≡ t → SomeRow (x ∷ xs) ⊎ NoneTaken (x ∷ xs)
   on_read m ih x xs l (Err f) er t et = inr (record { why = f; fails = unreadable x xs f er })
   on_read m ih x xs l (Ok r) er true et = on_this (x ∷ xs) r (parts es n (x ∷ xs) r er) et
   on_read m ih x xs l (Ok r) er false et =
@@ -218,7 +218,7 @@ module _ (es : List Listed) (n : Ready) where
       let s = shorter (x ∷ xs) r w in
       on_later (x ∷ xs) r w et (ih (left (x ∷ xs) r w) (omega arith))
 
-  pub either : (m : ℕ) (xs : List ℕ) → length xs ≤ m → SomeRow xs ⊎ NoRow xs
+  pub either : (m : ℕ) (xs : List ℕ) → length xs ≤ m → SomeRow xs ⊎ NoneTaken xs
   either zero [] l = inr (record { why = NoRow n.holder; fails = over })
   either zero (x ∷ xs) l = absurd (omega arith)
   either (suc m) [] l = inr (record { why = NoRow n.holder; fails = over })

@@ -8,6 +8,6 @@ pub returns : goal.returns
 returns c =
     let t = c.args.tree.now in
     record {
-      is = c.from-first.ensures;
-      leads = answers (nodes_of t) (specified t c.args.specifier.now) (route_in t c.from-first.result) c.from-first.ensures;
+      is = c.from_first.ensures;
+      leads = answers (nodes_of t) (specified t c.args.specifier.now) (route_in t c.from_first.result) c.from_first.ensures;
     }

@@ -9,10 +9,10 @@ use Rattle.walk.specs.Hops.{hops_of}
 use Rattle.walk.proofs.Onward.{looked_on}
 use Rattle.walk.proofs.steps.+arrive_look_up_row.Goals as goal
 
-pub look-up-row-returns : goal.look-up-row-returns
-look-up-row-returns t c =
+pub look_up_row-returns : goal.look_up_row-returns
+look_up_row-returns t c =
     let tree = c.args.tree.now in
     c.arrive.ensures
-    ∙ looked_on (nodes_of tree) (specified tree c.args.specifier.now) c.args.rows-left (entry_in tree c.args.node.now) (owned c.args.map.now)
-    (list_option c.args.given) (cells_in c.args.cells) (hops_of c.args.hops) (ready c.in-ok-nexus.nexus) (took tree c.in-ok-taken.taken)
-    c.in-ok-nexus.ensures c.in-ok-taken.ensures c.if-rows-left-eq0.false (hops_of c.with-more.result) c.with-more.ensures.list
+    ∙ looked_on (nodes_of tree) (specified tree c.args.specifier.now) c.args.rows_left (entry_in tree c.args.node.now) (owned c.args.map.now)
+    (list_option c.args.given) (cells_in c.args.cells) (hops_of c.args.hops) (ready c.in_ok-nexus.nexus) (took tree c.in_ok-taken.taken)
+    c.in_ok-nexus.ensures c.in_ok-taken.ensures c.if-rows_left-eq0.false (hops_of c.with-more.result) c.with-more.ensures.list
