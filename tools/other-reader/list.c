@@ -15,7 +15,8 @@
  *     refused NODE INDEX layer L, number N, node P, property Q
  * (`via` and its list only where a nexus is passed), and after the last one:
  *     routes: N, refused: M
- * With more than one file, a line FILE: comes before each listing.
+ * With more than one file, a line FILE: comes before each listing. After the word
+ * --nodes only the nodes and how much there is are listed.
  *
  * It lists blobs that open. One that libfdt turns down, that is more than 16
  * deep, or that has a phandle against the rules ends the program with a message.
@@ -118,20 +119,25 @@ static void list_nodes(const struct blob *blob)
 	printf("opened: %d nodes, %d properties, %d phandles\n", nodes, properties, phandles);
 }
 
-int main(int count, char **files)
+int main(int count, char **words)
 {
-	if (count < 2) {
-		fprintf(stderr, "usage: list FILE...\n");
+	int nodes_only = count > 1 && strcmp(words[1], "--nodes") == 0;
+	char **files = words + 1 + nodes_only;
+	int several = count - 1 - nodes_only;
+
+	if (several < 1) {
+		fprintf(stderr, "usage: list [--nodes] FILE...\n");
 		return 2;
 	}
-	for (int i = 1; i < count; i++) {
+	for (int i = 0; i < several; i++) {
 		struct blob blob = read_blob(files[i]);
 
-		if (count > 2)
+		if (several > 1)
 			printf("%s:\n", files[i]);
 		check_phandles(&blob);
 		list_nodes(&blob);
-		list_routes(&blob);
+		if (!nodes_only)
+			list_routes(&blob);
 		free(blob.bytes);
 	}
 	return 0;

@@ -19,8 +19,8 @@ GENERATED = re.compile(
     r"(decreases|invariant|overflow|bounds|slice_bounds|offset_bounds|nonzero|returns|loop|invariant_of)[-_]|.*-requires$|.*-(init|preserved|smaller)$")
 WORD = re.compile(r"[^\s(){}\[\];,.:\"⌜⌝λ]+")
 
-# Types that were spelled as words, and words that were spelled as types.
-BY_HAND = {"pair-sound": "PairSound", "parts-sound": "PartsSound"}
+# Types that were spelled as words, and a name that would fall together with a variant of a fault.
+BY_HAND = {"pair-sound": "PairSound", "parts-sound": "PartsSound", "No-row": "NoneTaken"}
 
 
 def files(ending):
@@ -70,7 +70,7 @@ def library_names():
 def new_name(name):
     if name in BY_HAND:
         return BY_HAND[name]
-    if "-" not in name or not re.match(r"[A-Za-z]", name):
+    if not re.match(r"[a-z]\S*-|[A-Z]\S*[-_]", name):
         return name
     if name[0].isupper():
         return "".join(w[:1].upper() + w[1:] for w in re.split("[-_]", name))

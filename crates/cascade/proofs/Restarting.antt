@@ -10,7 +10,7 @@ use Rattle.controller.specs.declared.call.CallFault.{CallFault}
 use Rattle.controller.specs.declared.call.Change.{Change}
 use Rattle.controller.specs.declared.call.Change.TheVariants.{Mask, Sense}
 use Rattle.controller.specs.Calls.{guard, step_of}
-use Rattle.controller.specs.Meaning.{Meaning, Changed, at, moved, step_at, all_reset}
+use Rattle.controller.specs.Meaning.{Meaning, Changed, at, moved, all_reset}
 use Rattle.cascade.specs.declared.fault.CascadeFault.{CascadeFault}
 use Rattle.cascade.specs.declared.fault.CascadeFault.TheVariants.{NoLine, TooWide}
 use Rattle.cascade.specs.Pairs.{pair_lines, pair, used, busy, Linked, Tied, Bound, Settled}

@@ -1,6 +1,6 @@
 -- What the side of a line says.
-use Rattle.std.specs.Prelude.{◌≡◌, ℕ, ◌-◌, ◌<◌, ◌≤◌, true, false, cond, Some, ◌≢◌, nat_eq, nat_lt}
-use Rattle.std.proofs.Common.{sym, ◌∙◌, ⊎_elim, arith}
+use Rattle.std.specs.Prelude.{◌≡◌, ℕ, ◌-◌, ◌<◌, ◌≤◌, true, false, Some, ◌≢◌, nat_eq, nat_lt}
+use Rattle.std.proofs.Common.{◌∙◌, ⊎_elim}
 use Rattle.std.proofs.lemmas.Bool.{cases_eq, cases_lt, lt-ltb, le-ltb, eq-eqb, ne_eqb}
 use Rattle.cascade.specs.declared.pair.Side.TheVariants.{Parent, Wired, Child}
 use Rattle.cascade.specs.Sides.{side_of}

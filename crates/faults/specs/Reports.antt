@@ -1,6 +1,5 @@
 -- What each fault reports.
 use Rattle.std.specs.Prelude.{ℕ}
-use Rattle.faults.specs.declared.place.Place.{Place}
 use Rattle.faults.specs.declared.report.Report.{Report}
 use Rattle.faults.specs.declared.fault.HeaderFault.{HeaderFault}
 use Rattle.faults.specs.declared.fault.HeaderFault.TheVariants.{Size, Magic, Version, Blocks}

@@ -1,13 +1,13 @@
 -- The tokens from a place on are the token there and those from the next place on.
-use Rattle.std.proofs.Common.{◌≡◌, ℕ, zero, suc, ◌+◌, ◌-◌, ◌*◌, ◌/◌, ◌%◌, ◌<◌, ◌≤◌, Bool, true, false, cond, ◌&&◌, eqb, leb, List, [], ◌∷◌, length, Ok, Err, Result, sym, refl, ap, ◌∙◌, arith}
+use Rattle.std.proofs.Common.{◌≡◌, ℕ, zero, suc, ◌+◌, ◌-◌, ◌%◌, ◌<◌, ◌≤◌, Bool, true, false, cond, ◌&&◌, eqb, leb, List, ◌∷◌, length, Ok, Err, Result, refl, ap, arith}
 use Rattle.std.proofs.lemmas.Bool.{leb-true, and_parts}
 use Rattle.std.proofs.lemmas.Bool.Decides.{nat_tests}
 use Rattle.cells.specs.declared.header.Header.{Header}
 use Rattle.faults.specs.declared.fault.TokenFault.{TokenFault}
 use Rattle.faults.specs.declared.fault.TokenFault.TheVariants.{Past}
-use Rattle.cells.specs.Cells.{Piece, within, cell, cell_or, part_or, name_or}
+use Rattle.cells.specs.Cells.{within, cell, cell_or, part_or, name_or}
 use Rattle.fdt.specs.Tokens.{Word, opens, property, closes, nothing, ends, at, after, align, open_at, property_at, token_by, token_at, ending}
-use Rattle.fdt.specs.Items.{Item, item, bad, onward, more, items_in, items}
+use Rattle.fdt.specs.Items.{Item, item, onward, more, items_in, items}
 
 -- a chain that ends well went well at its first step
 pub after_by : {X Y F P : Type 0} (r : Result X F) (f : X → Result Y F) (y : Y) → ((x : X) → r ≡ Ok x → f x ≡ Ok y → P) → after r f ≡ Ok y → P

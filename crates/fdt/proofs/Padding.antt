@@ -1,17 +1,17 @@
 -- A token is decided by its own bytes and the names of properties.
-use Rattle.std.proofs.Common.{◌≡◌, ℕ, zero, suc, ◌+◌, ◌-◌, ◌*◌, ◌/◌, ◌%◌, ◌<◌, ◌≤◌, Bool, true, false, cond, ◌&&◌, eqb, ltb, leb, ◌⊎◌, List, [], ◌∷◌, length, get_or, take, drop, Ok, Err, Result, sym, refl, ap, ◌∙◌, inl, inr, arith, lit≤, ext_get_or}
+use Rattle.std.proofs.Common.{◌≡◌, ℕ, zero, suc, ◌+◌, ◌-◌, ◌%◌, ◌<◌, ◌≤◌, Bool, true, false, cond, ◌&&◌, eqb, ltb, leb, List, [], ◌∷◌, length, get_or, take, drop, Ok, Err, Result, sym, refl, ap, ◌∙◌, arith, lit≤, ext_get_or}
 use Rattle.std.specs.List.{prefix_len}
 use Rattle.std.proofs.lemmas.List.{get_or-take, get_or-drop, length-take, length-take-le, length-drop}
-use Rattle.std.proofs.lemmas.Bool.{leb-true, ltb-true, ltb-false, lt-ltb, and_parts, cases_lt, cases_Bool}
+use Rattle.std.proofs.lemmas.Bool.{leb-true, ltb-true, and_parts}
 use Rattle.cells.specs.declared.header.Header.{Header}
 use Rattle.faults.specs.declared.fault.TokenFault.{TokenFault}
 use Rattle.faults.specs.declared.fault.TokenFault.TheVariants.{Past}
-use Rattle.cells.specs.Cells.{Piece, within, cell, standing, nonzero, leading_nonzero, name_size, cell_or, part_or, name_or}
+use Rattle.cells.specs.Cells.{Piece, within, cell, standing, nonzero, name_size, cell_or, part_or, name_or}
 use Rattle.fdt.specs.Tokens.{Word, opens, property, closes, nothing, ends, at, after, align, open_at, property_at, token_by, token_at, ending}
 use Rattle.faults.specs.declared.fault.HeaderFault.{HeaderFault}
 use Rattle.faults.specs.declared.fault.HeaderFault.TheVariants.{Size, Magic, Version, Blocks}
 use Rattle.cells.specs.Headers.{block_within, header_of}
-use Rattle.fdt.specs.Items.{Item, item, bad, more, items_in, items}
+use Rattle.fdt.specs.Items.{item, more, items_in, items}
 use Rattle.fdt.specs.Unread.{token_end, reads_to, fault_place, Same, SameToken, SameItems, Decided}
 use Rattle.fdt.proofs.Onward.{after_by, cond_ok, ok_same}
 

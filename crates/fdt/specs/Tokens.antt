@@ -1,5 +1,5 @@
 -- The tokens of a structure block.
-use Rattle.std.specs.Prelude.{ℕ, ◌+◌, ◌*◌, ◌/◌, ◌%◌, Bool, cond, ◌&&◌, List, length, Ok, Err, Result, ◌==◌, nat_le}
+use Rattle.std.specs.Prelude.{ℕ, ◌+◌, ◌*◌, ◌/◌, ◌%◌, cond, ◌&&◌, List, length, Ok, Err, Result, ◌==◌, nat_le}
 use Rattle.cells.specs.declared.header.Header.{Header}
 use Rattle.faults.specs.declared.place.Place.{Place}
 use Rattle.fdt.specs.declared.token.Token.{Token}

@@ -32,36 +32,36 @@ module _ (i : ℕ) (F : Event → Bool) (Q : Row → Bool) where
       ap Q (after_++ r (at_most_one (step_of i x)) (own i p) ∙ ap (λ z. after (after r (at_most_one (step_of i z))) (own i p)) (sym same))
       ∙ befores (after r (at_most_one (step_of i y))) h t.1 p e q rest c
 
-abbrev Changed : ℕ → Event → Bool
-Changed i e = is_change i e.call e.answer
+abbrev changing : ℕ → Event → Bool
+changing i e = is_change i e.call e.answer
 
 abbrev KeptAlong : ℕ → Row → List Event → Type 0
-KeptAlong i r h = Along (λ x e. Changed i e ≡ true → rests x ≡ true) i r h
+KeptAlong i r h = Along (λ x e. changing i e ≡ true → rests x ≡ true) i r h
 
 tested : (i : ℕ) (r : Row) (h : List Event) → KeptAlong i r h → rests (after r (own i h)) ≡ true → keeps_from i r h ≡ true
 tested i r [] k e = e
 tested i r (x ∷ h) k e =
-    and_from _ _ (choose (Changed i x) (rests r) k.0)
+    and_from _ _ (choose (changing i x) (rests r) k.0)
     (tested i (after r (at_most_one (step_of i x))) h k.1 (sym (ap rests (after_++ r (at_most_one (step_of i x)) (own i h))) ∙ e))
 
 kept_along : (i : ℕ) (r : Row) (h : List Event) → keeps_from i r h ≡ true → KeptAlong i r h
 kept_along i r [] t = tt
 kept_along i r (x ∷ h) t =
-    let both = and_parts (cond (Changed i x) (rests r) true) (keeps_from i (after r (at_most_one (step_of i x))) h) t in
-    (chosen (Changed i x) (rests r) both.0, kept_along i (after r (at_most_one (step_of i x))) h both.1)
+    let both = and_parts (cond (changing i x) (rests r) true) (keeps_from i (after r (at_most_one (step_of i x))) h) t in
+    (chosen (changing i x) (rests r) both.0, kept_along i (after r (at_most_one (step_of i x))) h both.1)
 
 ends : (i : ℕ) (r : Row) (h : List Event) → keeps_from i r h ≡ true → rests (after r (own i h)) ≡ true
 ends i r [] t = t
 ends i r (x ∷ h) t =
-    let both = and_parts (cond (Changed i x) (rests r) true) (keeps_from i (after r (at_most_one (step_of i x))) h) t in
+    let both = and_parts (cond (changing i x) (rests r) true) (keeps_from i (after r (at_most_one (step_of i x))) h) t in
     ap rests (after_++ r (at_most_one (step_of i x)) (own i h)) ∙ ends i (after r (at_most_one (step_of i x))) h both.1
 
 pub kept_by_test : (s : Sense) (i : ℕ) (h : List Event) → keeps_up s i h ≡ true → KeptUp s i h
 kept_by_test s i h t =
-    record { before = befores i (Changed i) rests (fresh s) h (kept_along i (fresh s) h t); at_end = ends i (fresh s) h t }
+    record { before = befores i (changing i) rests (fresh s) h (kept_along i (fresh s) h t); at_end = ends i (fresh s) h t }
 
 pub test_of_kept : (s : Sense) (i : ℕ) (h : List Event) → KeptUp s i h → keeps_up s i h ≡ true
-test_of_kept s i h k = tested i (fresh s) h (along (λ x e. Changed i e ≡ true → rests x ≡ true) s i [] h k.before) k.at_end
+test_of_kept s i h k = tested i (fresh s) h (along (λ x e. changing i e ≡ true → rests x ≡ true) s i [] h k.before) k.at_end
 
 pub kept_exactly : (s : Sense) (i : ℕ) (h : List Event) (r : Bool) → r ≡ keeps_up s i h → Exactly (r ≡ true) (KeptUp s i h)
 kept_exactly s i h r e = record { only = λ t. kept_by_test s i h (sym e ∙ t); every = λ k. e ∙ test_of_kept s i h k }

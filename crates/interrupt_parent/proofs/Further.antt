@@ -1,10 +1,10 @@
 -- One candidate of those that are left.
-use Rattle.std.proofs.Common.{◌≡◌, ℕ, zero, suc, ◌-◌, Bool, true, false, cond, eqb, List, Some, None, Ok, Err, codes, Option, Result, sym, refl, ap, ◌∙◌, arith}
+use Rattle.std.proofs.Common.{◌≡◌, ℕ, zero, suc, ◌-◌, Bool, true, false, cond, eqb, List, Some, None, Ok, Err, codes, Option, Result, refl, arith}
 use Rattle.std.proofs.lemmas.Bool.{ne_eqb}
 use Rattle.faults.specs.declared.fault.RouteFault.{RouteFault}
 use Rattle.fdt.specs.Tokens.{after}
 use Rattle.tree.specs.Nodes.{Entry, Listed}
-use Rattle.interrupt_parent.specs.Parents.{Seen, parent, further, parent_by, parent_within, look_by, look_at, looked_by, candidate}
+use Rattle.interrupt_parent.specs.Parents.{parent, further, parent_by, parent_within, look_by, look_at, looked_by, candidate}
 use Rattle.values.specs.Values.{has}
 
 module _ (next : Entry → Result Entry RouteFault) (device : ℕ) where

@@ -1,6 +1,5 @@
 -- What a row that was read is made of, and the rows after it.
-use Rattle.std.proofs.Common.{◌≡◌, ℕ, zero, suc, ◌+◌, ◌-◌, ◌<◌, ◌≤◌, Bool, true, false, cond, eqb, ltb, leb, List, [], ◌∷◌, length, get_or, drop, Ok, Err, Result, sym, refl, ap, ◌∙◌, arith}
-use Rattle.std.proofs.lemmas.List.{drop-drop}
+use Rattle.std.proofs.Common.{◌≡◌, ℕ, zero, suc, ◌+◌, ◌-◌, ◌<◌, ◌≤◌, Bool, true, false, cond, eqb, ltb, leb, List, [], ◌∷◌, length, get_or, drop, Ok, Err, Result, refl, ap, arith}
 use Rattle.std.proofs.lemmas.Bool.{ne_eqb, ltb-true, leb-true}
 use Rattle.faults.specs.declared.fault.RouteFault.{RouteFault}
 use Rattle.faults.specs.declared.fault.RouteFault.TheVariants.{Row}
@@ -11,7 +10,7 @@ use Rattle.values.specs.declared.counts.Counts.{Counts}
 use Rattle.values.specs.Counts.{counts_of}
 use Rattle.values.specs.Values.{node_of}
 use Rattle.nexus.specs.Nexuses.{Ready, matches}
-use Rattle.nexus.specs.Rows.{RowSeen, row_of, row_by, row_at, rows_from, Took, take_row, Try, matched, passed, try_row, tried_by}
+use Rattle.nexus.specs.Rows.{RowSeen, row_of, row_by, row_at, rows_from, Took, take_row, matched, passed, try_row, tried_by}
 
 module _ (es : List Listed) (n : Ready) where
   -- what a row that could be read is made of

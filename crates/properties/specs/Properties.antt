@@ -5,7 +5,7 @@ use Rattle.properties.specs.declared.Property.{Property}
 use Rattle.cells.specs.declared.header.Header.{Header}
 use Rattle.faults.specs.declared.fault.TokenFault.{TokenFault}
 use Rattle.cells.specs.Cells.{Piece, piece}
-use Rattle.fdt.specs.Tokens.{Word, opens, property, closes, nothing, ends, ending}
+use Rattle.fdt.specs.Tokens.{opens, property, closes, nothing, ends, ending}
 use Rattle.fdt.specs.Items.{Item, item, bad}
 
 -- a property: the place of its token, its name and its value, and the place of the next token

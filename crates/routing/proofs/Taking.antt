@@ -1,17 +1,14 @@
 -- The row that the search finds is the row that is taken.
-use Rattle.std.proofs.Common.{◌≡◌, ℕ, zero, suc, ◌+◌, ◌-◌, ◌<◌, ◌≤◌, Bool, true, false, cond, ◌&&◌, eqb, ltb, leb, ◌⊎◌, List, [], ◌∷◌, ◌++◌, length, get_or, take, drop, Ok, Err, Result, sym, refl, ap, ◌∙◌, subst, inl, inr, arith, length-append}
+use Rattle.std.proofs.Common.{◌≡◌, ℕ, zero, suc, ◌+◌, ◌<◌, ◌≤◌, Bool, true, false, eqb, ltb, leb, ◌⊎◌, List, [], ◌∷◌, ◌++◌, length, get_or, take, drop, Ok, Err, Result, sym, refl, ap, ◌∙◌, subst, inl, inr, arith, length-append}
 use Rattle.std.specs.Str.{bytes_eq}
 use Rattle.std.proofs.lemmas.List.{take_at, drop_at, get_or_at, drop-drop, drop_more, take-append-drop, length-take, length-drop}
 use Rattle.std.proofs.lemmas.Bool.{lt-ltb, le-leb, eqb-true, eq-eqb, and_parts, and_from, both_ways}
 use Rattle.faults.specs.declared.fault.RouteFault.{RouteFault}
 use Rattle.faults.specs.declared.fault.RouteFault.TheVariants.{NoRow}
 use Rattle.nexus.specs.Nexuses.{Ready, masked, matches}
-use Rattle.nexus.specs.Rows.{RowSeen, Took, row_of, row_at, rows_from, take_row}
+use Rattle.nexus.specs.Rows.{RowSeen, row_of, row_at, rows_from, take_row}
 use Rattle.nexus.proofs.Tries.{Parts, parts, rows_passed}
 use Rattle.tree.specs.Nodes.{Entry, Listed}
-use Rattle.values.specs.declared.counts.Counts.{Counts}
-use Rattle.values.specs.Counts.{counts_of}
-use Rattle.values.specs.Values.{node_of}
 use Rattle.routing.specs.Leads.{IsRow, row_cells, Takes, this, later, Fails, over, unreadable, passed}
 
 pub no_result : {A B : Type 0} {f : RouteFault} {b : B} → ◌≡◌ {A = Result B RouteFault} (Err f) (Ok b) → A

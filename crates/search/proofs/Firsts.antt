@@ -2,7 +2,6 @@
 use Rattle.std.proofs.Common.{◌≡◌, ℕ, zero, suc, ◌+◌, ◌-◌, ◌<◌, ◌≤◌, Bool, true, false, cond, ◌⊎◌, List, [], ◌∷◌, length, get_or, drop, Some, None, Option, sym, refl, ap, ◌∙◌, inl, inr, arith, MatchOption}
 use Rattle.std.proofs.lemmas.List.{at_drop_more, at_drop_all}
 use Rattle.std.proofs.lemmas.Bool.{cases_order, both_ways}
-use Rattle.search.specs.Exactly.{Exactly}
 use Rattle.search.specs.First.{first, first_from, Nowhere, FirstAt, FirstFit}
 
 module _ {X : Type 0} (fit : X → Bool) (xs : List X) (i : ℕ) where

@@ -1,14 +1,13 @@
 -- The phandles are accepted exactly if they are good and distinct.
-use Rattle.std.proofs.Common.{◌≡◌, ℕ, ◌+◌, Bool, true, false, cond, ◌&&◌, ◌||◌, eqb, List, [], ◌∷◌, ◌++◌, length, Some, None, Ok, Err, Option, Result, sym, refl, ap, ◌∙◌, subst, append_assoc, append-nil, arith}
-use Rattle.std.proofs.lemmas.Bool.{eqb-true, eqb-false, eq-eqb, ne_eqb, or_parts, or_from, and_from, and_right, both_ways}
+use Rattle.std.proofs.Common.{◌≡◌, ℕ, ◌+◌, Bool, true, false, cond, ◌||◌, eqb, List, [], ◌∷◌, ◌++◌, length, Some, None, Ok, Err, Option, Result, sym, refl, ap, ◌∙◌, subst, append_assoc, append-nil, arith}
+use Rattle.std.proofs.lemmas.Bool.{eqb-true, eqb-false, eq-eqb, ne_eqb, or_parts, or_from, and_from, and_right}
 use Rattle.faults.specs.declared.fault.TokenFault.{TokenFault}
-use Rattle.fdt.specs.Tokens.{at, after}
+use Rattle.fdt.specs.Tokens.{after}
 use Rattle.properties.specs.Properties.{Owned}
-use Rattle.faults.specs.declared.fault.RouteFault.{RouteFault}
-use Rattle.faults.specs.declared.fault.RouteFault.TheVariants.{Token, Value, Phandle}
+use Rattle.faults.specs.declared.fault.RouteFault.TheVariants.{Value, Phandle}
 use Rattle.tree.specs.Nodes.{Entry, Listed, listed, broken}
 use Rattle.tree.specs.Opening.{Readable}
-use Rattle.tree.specs.Phandles.{phandle_name, phandle_of, places, held, one_cell, is_cell, used, good_handle, handle_checked, phandle_checked, phandles_from, phandles, handle, GoodPhandles}
+use Rattle.tree.specs.Phandles.{phandle_name, phandle_of, places, held, one_cell, is_cell, used, good_handle, handle_checked, phandle_checked, phandles_from, handle, GoodPhandles}
 use Rattle.fdt.proofs.Onward.{after_by, cond_ok}
 use Rattle.rules.proofs.Trees.{no_result}
 use Rattle.tree.proofs.Readable.{readable_more}

@@ -1,9 +1,7 @@
 -- Opening accepts exactly a blob with a good header, the tokens of one tree, and good phandles.
-use Rattle.std.proofs.Common.{◌≡◌, ℕ, List, [], take, Ok, Err, Result, sym, refl, ap, ◌∙◌, subst}
-use Rattle.search.specs.Exactly.{Exactly}
+use Rattle.std.proofs.Common.{◌≡◌, ℕ, List, [], take, Ok, Err, Result, sym, ap, ◌∙◌, subst}
 use Rattle.cells.specs.declared.header.Header.{Header}
 use Rattle.faults.specs.declared.fault.HeaderFault.{HeaderFault}
-use Rattle.faults.specs.declared.fault.TokenFault.{TokenFault}
 use Rattle.fdt.specs.Blobs.{Source, source, blob_from, blob_of}
 use Rattle.cells.specs.Headers.{header_of}
 use Rattle.fdt.specs.Items.{all_items}

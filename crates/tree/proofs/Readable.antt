@@ -1,18 +1,17 @@
 -- Where the walk accepts the tokens, every node and every property can be read.
-use Rattle.std.proofs.Common.{◌≡◌, ℕ, zero, suc, ◌+◌, Bool, true, false, cond, eqb, leb, List, [], ◌∷◌, ◌++◌, length, Some, None, Ok, Err, Option, Result, sym, refl, ap, ◌∙◌, arith}
+use Rattle.std.proofs.Common.{◌≡◌, ℕ, zero, suc, ◌+◌, Bool, true, false, cond, eqb, leb, List, [], ◌∷◌, ◌++◌, length, Some, None, Ok, Err, Option, sym, refl, ap, ◌∙◌, arith}
 use Rattle.std.specs.Str.{bytes_eq}
-use Rattle.faults.specs.declared.fault.TokenFault.{TokenFault}
 use Rattle.faults.specs.declared.fault.TokenFault.TheVariants.{Rule, Depth}
 use Rattle.cells.specs.Cells.{Piece}
-use Rattle.fdt.specs.Tokens.{Word, opens, property, closes, nothing, ends, at}
+use Rattle.fdt.specs.Tokens.{opens, property, closes, nothing, ends, at}
 use Rattle.fdt.specs.Items.{Item, item, bad}
 use Rattle.properties.specs.Properties.{Owned, sought}
 use Rattle.rules.specs.declared.walk.Walk.{Walk}
-use Rattle.rules.specs.declared.walk.Stage.TheVariants.{Start, Properties as Owning, Subnodes, Finished}
-use Rattle.rules.specs.Rules.{walk, admitted, checked}
-use Rattle.tree.specs.Nodes.{Entry, Listed, listed, broken, nodes}
+use Rattle.rules.specs.declared.walk.Stage.TheVariants.{Start, Properties as Owning}
+use Rattle.rules.specs.Rules.{walk, checked}
+use Rattle.tree.specs.Nodes.{Listed, listed, broken, nodes}
 use Rattle.tree.specs.Opening.{Readable}
-use Rattle.rules.proofs.Trees.{no_result, Standing, start, inside, done, depth_of, stand, up, close_in}
+use Rattle.rules.proofs.Trees.{no_result, Standing, start, inside, done, depth_of, stand, close_in}
 
 pub readable_more : (es fs : List Listed) → Readable es → Readable fs → Readable (es ++ fs)
 readable_more [] fs x y = y

@@ -4,7 +4,7 @@ use Rattle.cells.specs.declared.header.Header.{Header}
 use Rattle.faults.specs.declared.fault.TokenFault.{TokenFault}
 use Rattle.faults.specs.declared.fault.TokenFault.TheVariants.{Rule, Depth}
 use Rattle.cells.specs.Cells.{Piece, piece}
-use Rattle.fdt.specs.Tokens.{Word, opens, property, closes, nothing, ends, at, ending}
+use Rattle.fdt.specs.Tokens.{opens, property, closes, nothing, ends, at, ending}
 use Rattle.fdt.specs.Items.{Item, item, bad, items}
 use Rattle.tree.specs.declared.node.Node.{Node}
 
@@ -71,7 +71,7 @@ listed_by k (Ok (Some e)) = listed e ∷ k e
 listed_by k (Err f) = broken f ∷ []
 
 -- a node that was read from the place i on lies in the structure block, and its body past i
-abbrev pub Goes_on : Header → ℕ → Result (Option Node) TokenFault → Type 0
-Goes_on h i (Ok None) = Unit {0}
-Goes_on h i (Ok (Some n)) = (i + 4 ≤ n.body.place.0) × (i + 4 ≤ ending h)
-Goes_on h i (Err f) = Unit {0}
+abbrev pub GoesOn : Header → ℕ → Result (Option Node) TokenFault → Type 0
+GoesOn h i (Ok None) = Unit {0}
+GoesOn h i (Ok (Some n)) = (i + 4 ≤ n.body.place.0) × (i + 4 ≤ ending h)
+GoesOn h i (Err f) = Unit {0}

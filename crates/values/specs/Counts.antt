@@ -1,5 +1,5 @@
 -- How many cells a unit address and a specifier have at a node.
-use Rattle.std.specs.Prelude.{ℕ, Bool, cond, ◌&&◌, ◌||◌, List, Some, None, Ok, Err, codes, Option, Result, ◌==◌, nat_lt}
+use Rattle.std.specs.Prelude.{ℕ, Bool, cond, ◌&&◌, ◌||◌, Some, None, Ok, Err, codes, Option, Result, ◌==◌, nat_lt}
 use Rattle.faults.specs.declared.report.Report.{Report}
 use Rattle.faults.specs.declared.fault.RouteFault.{RouteFault}
 use Rattle.faults.specs.declared.fault.RouteFault.TheVariants.{NoEnd, Row}

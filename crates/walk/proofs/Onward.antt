@@ -1,5 +1,5 @@
 -- A row is taken, and one fewer is left.
-use Rattle.std.proofs.Common.{◌≡◌, ℕ, zero, suc, ◌-◌, List, [], ◌∷◌, ◌++◌, Some, None, Ok, Option, sym, refl, ap, ◌∙◌, arith}
+use Rattle.std.proofs.Common.{◌≡◌, ℕ, zero, suc, ◌-◌, List, [], ◌∷◌, ◌++◌, Some, Ok, Option, sym, refl, ap, arith}
 use Rattle.faults.specs.declared.place.At.{At}
 use Rattle.nexus.specs.Nexuses.{Ready, nexus_at}
 use Rattle.nexus.specs.Rows.{Took, taken_row}

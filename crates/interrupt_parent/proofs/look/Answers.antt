@@ -1,4 +1,4 @@
-use Rattle.std.proofs.Common.{◌≡◌, ◌-◌, sym, ap, ◌∙◌}
+use Rattle.std.proofs.Common.{◌-◌, sym, ap, ◌∙◌}
 use Rattle.tree.specs.Reads.{entry_in, nodes_of}
 use Rattle.interrupt_parent.specs.Parents.{looked_by, parent_within}
 use Rattle.interrupt_parent.proofs.Further.{looked_once}

@@ -1,4 +1,4 @@
-use Rattle.std.proofs.Common.{◌≡◌, ◌-◌, Some, None}
+use Rattle.std.proofs.Common.{◌≡◌, ◌-◌}
 use Rattle.fdt.specs.Tokens.{ending}
 use Rattle.tree.specs.Nodes.{nodes_from, all_nodes, entry_of}
 use Rattle.nodes.specs.Finding.{parent_from, parent_of}

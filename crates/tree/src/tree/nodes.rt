@@ -1,6 +1,6 @@
 ghost use Rattle.std.specs.Prelude.{◌≡◌};
 ghost use Rattle.properties.specs.Properties.{PropertyGoes, property_seen, first_property, sought};
-ghost use Rattle.tree.specs.Nodes.{Goes_on, first_node, listed_by};
+ghost use Rattle.tree.specs.Nodes.{GoesOn, first_node, listed_by};
 ghost use Rattle.tree.specs.Reads.{node_in, nodes_in, nodes_of, tokens_in};
 
 use super::Tree;
@@ -26,7 +26,7 @@ impl<'a> Tree<'a> {
     pub fn next_node(&self, cursor: Cursor) -> Result<Option<Node<'a>>, TokenFault>
         ensures is { node_in self.now result ≡ first_node (nodes_in self.now cursor.depth cursor.place.0) }
         ensures rest { nodes_in self.now cursor.depth cursor.place.0 ≡ listed_by (λ e. nodes_in self.now e.depth e.body) (node_in self.now result) }
-        ensures goes { Goes_on self.now.blob.header cursor.place.0 result }
+        ensures goes { GoesOn self.now.blob.header cursor.place.0 result }
     {
         let mut at = cursor;
         loop {

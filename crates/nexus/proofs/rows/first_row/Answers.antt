@@ -1,4 +1,4 @@
-use Rattle.std.proofs.Common.{◌≡◌, ℕ, ◌+◌, List, sym, ap, ◌∙◌}
+use Rattle.std.proofs.Common.{ℕ, ◌+◌, List, sym, ap, ◌∙◌}
 use Rattle.cell_list.specs.CellLists.{cells_in}
 use Rattle.tree.specs.Reads.{nodes_of}
 use Rattle.nexus.specs.Nexuses.{ready}

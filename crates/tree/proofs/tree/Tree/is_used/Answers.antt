@@ -1,4 +1,4 @@
-use Rattle.std.proofs.Common.{◌-◌, true, false, cond, take, Ok, Err, sym, ap, ◌∙◌, arith}
+use Rattle.std.proofs.Common.{◌-◌, true, cond, take, Ok, Err, sym, ap, ◌∙◌, arith}
 use Rattle.std.proofs.lemmas.Result.{err_from_is_err_and}
 use Rattle.properties.specs.Properties.{property_seen}
 use Rattle.tree.specs.Nodes.{nodes_from, entry}

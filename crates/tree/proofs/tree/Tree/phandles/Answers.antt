@@ -1,6 +1,6 @@
 use Rattle.std.proofs.Common.{◌≡◌, ◌+◌, ◌≤◌, cond, ◌∷◌, take, drop, Ok, Option, sym, ap, ◌∙◌, subst, arith}
 use Rattle.tree.specs.declared.node.Node.{Node}
-use Rattle.tree.specs.Nodes.{Goes_on, all_nodes, nodes_from, entry, listed}
+use Rattle.tree.specs.Nodes.{GoesOn, all_nodes, nodes_from, entry, listed}
 use Rattle.tree.specs.Phandles.{phandles_from}
 use Rattle.tree.proofs.Using.{listed_some, list_more, phandles_turn}
 use Rattle.tree.proofs.tree.Tree.phandles.Goals as goal
@@ -19,7 +19,7 @@ loop-node-preserved c =
     let later = nodes_from b h node.body.depth node.body.place.0 in
     let l = listed_some b h at.depth at.place.0 c.in_ok-node.field-0 c.in_ok-node.ensures.rest node c.in-Some.is in
     let d : drop count all ≡ listed (entry b h node) ∷ later = sym c.loop-node.invariant.2 ∙ l in
-    let goes = subst (λ (o : Option Node). Goes_on h at.place.0 (Ok o)) c.in-Some.is c.in_ok-node.ensures.goes in
+    let goes = subst (λ (o : Option Node). GoesOn h at.place.0 (Ok o)) c.in-Some.is c.in_ok-node.ensures.goes in
     let few : c.if-branch.found ≤ count + 1 =
     elim c.if-branch.branch [ then-branch w ↦ omega (arith, w.found-is) | else-branch w ↦ omega (arith, w.found-is) ] in
     let sum : c.if-branch.found ≡ cond has (found + 1) found =
