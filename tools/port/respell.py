@@ -4,7 +4,7 @@
     respell.py            at the top of the repository: rewrites crates/*/{src,specs,proofs} in place
     respell.py --list     says what would be renamed, and writes nothing
 
-A name is one of our own where a line of specs/ or proofs/ defines it. Left alone are goals, invariants and measures (their type
+A name is one of our own where a line of specs/ or proofs/ defines it, or an import brings something in under it. Left alone are goals, invariants and measures (their type
 begins with `goal.`, or the checker names them), names that the library has too, comments, strings, and functions of src/.
 Two names that would fall together stop it before anything is written.
 """
@@ -20,7 +20,7 @@ GENERATED = re.compile(
 WORD = re.compile(r"[^\s(){}\[\];,.:\"⌜⌝λ]+")
 
 # Types that were spelled as words, and a name that would fall together with a variant of a fault.
-BY_HAND = {"pair-sound": "PairSound", "parts-sound": "PartsSound", "No-row": "NoneTaken"}
+BY_HAND = {"pair-sound": "PairSound", "parts-sound": "PartsSound", "No-row": "NoneTaken", "Stands-after": "stands_after"}
 
 
 def files(ending):
@@ -53,6 +53,11 @@ def defined():
             if inside_function and (is_goal(kind) or GENERATED.match(name) and " : goal." in line):
                 continue
             own.setdefault(name, set()).add(path)
+    for ending in (".antt", ".rt"):
+        for path in files(ending):
+            for line in re.findall(r"^\s*(?:ghost )?use [^;\n]*", read(path), re.M):
+                for name in re.findall(r"\bas ([A-Za-z][^\s,{}]*)", line):
+                    own.setdefault(name, set()).add(path)
     return own
 
 

@@ -1,4 +1,4 @@
--- The test keeps-up says exactly whether a device was kept up with.
+-- The test keeps_up says exactly whether a device was kept up with.
 use Rattle.std.proofs.Common.{◌≡◌, ℕ, Bool, true, false, cond, List, [], ◌∷◌, ◌++◌, sym, refl, ap, ◌∙◌, arith}
 use Rattle.std.proofs.lemmas.Bool.{false≢true, and_parts, and_from}
 use Rattle.search.specs.Exactly.{Exactly}

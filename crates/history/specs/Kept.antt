@@ -17,7 +17,7 @@ abbrev pub ClaimsWait : Sense → ℕ → List Event → Type 0
 ClaimsWait s i h =
     (p : List Event) (e : Event) (q : List Event) → h ≡ p ++ (e ∷ q) → is_claim i e.call e.answer ≡ true → waits (stands s i p) ≡ true
 
--- the test of Kept-up, for a device that stands so before the list
+-- the test of KeptUp, for a device that stands so before the list
 abbrev pub keeps_from : ℕ → Row → List Event → Bool
 keeps_from i r [] = rests r
 keeps_from i r (e ∷ h) = cond (is_change i e.call e.answer) (rests r) true && keeps_from i (after r (at_most_one (step_of i e))) h

@@ -4,7 +4,7 @@ ghost use Rattle.line.specs.declared.row.Sense.TheVariants.{Edge};
 ghost use Rattle.line.specs.Lines.{row_of};
 ghost use Rattle.line.specs.Rows.{rests};
 ghost use Rattle.line.specs.Steps.{after};
-ghost use Rattle.history.specs.Own.{accepted, at_most_one, claims as claims-in, is_change, is_claim, names as names-device, own, stands as Stands-after, step_of};
+ghost use Rattle.history.specs.Own.{accepted, at_most_one, claims as claims_in, is_change, is_claim, names as names_device, own, stands as stands_after, step_of};
 ghost use Rattle.history.specs.Kept.{KeptUp, keeps_up};
 ghost use Rattle.history.specs.Law.{Counted};
 
@@ -14,8 +14,8 @@ use line::row::{Sense, Step};
 
 // How a device of this sense stands after the events. Equal own steps give equal records, whatever the lists.
 pub fn stands(sense: Sense, device: usize, events: &[Event]) -> Line
-    ensures is { row_of result ≡ Stands-after sense device events.now }
-    ensures alike { (j : ℕ) (k : List Event) → own device events.now ≡ own j k → row_of result ≡ Stands-after sense j k }
+    ensures is { row_of result ≡ stands_after sense device events.now }
+    ensures alike { (j : ℕ) (k : List Event) → own device events.now ≡ own j k → row_of result ≡ stands_after sense j k }
 {
     stepped(sense, device, events)
 }
@@ -31,14 +31,14 @@ pub fn kept_up(sense: Sense, device: usize, events: &[Event]) -> bool
 
 // How many claims named a device. For an edge device that was kept up with and waited at each claim, its changes say it.
 pub fn claims(device: usize, events: &[Event]) -> usize
-    ensures is { result ≡ claims-in device events.now }
+    ensures is { result ≡ claims_in device events.now }
     ensures kept { Counted Edge device events.now result }
 {
     count(device, events)
 }
 
 fn stepped(sense: Sense, device: usize, events: &[Event]) -> Line
-    ensures { row_of result ≡ Stands-after sense device events.now }
+    ensures { row_of result ≡ stands_after sense device events.now }
 {
     let mut line = Line::fresh(sense);
     for event in events {
@@ -61,7 +61,7 @@ fn rests_throughout(sense: Sense, device: usize, events: &[Event]) -> bool
 }
 
 fn count(device: usize, events: &[Event]) -> usize
-    ensures { result ≡ claims-in device events.now }
+    ensures { result ≡ claims_in device events.now }
 {
     let mut named = 0;
     for event in events {
@@ -139,7 +139,7 @@ fn accepts(device: usize, of: usize, answer: Answer) -> bool
 
 // The answer names the device.
 fn names(device: usize, answer: Answer) -> bool
-    ensures { result ≡ names-device device answer }
+    ensures { result ≡ names_device device answer }
 {
     match answer {
         Answer::Named(named) => device == named,
