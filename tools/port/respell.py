@@ -4,8 +4,9 @@
     respell.py            at the top of the repository: rewrites crates/*/{src,specs,proofs} in place
     respell.py --list     says what would be renamed, and writes nothing
 
-A name is one of our own where a line of specs/ or proofs/ defines it, or an import brings something in under it. Left alone are goals, invariants and measures (their type
-begins with `goal.`, or the checker names them), names that the library has too, comments, strings, and functions of src/.
+A name is one of our own where a line of specs/ or proofs/ defines it, or an import brings something in under it. Left alone
+are goals, invariants and measures (their type begins with `goal.`, or the checker names them), names that the library has
+too, comments, strings, and functions of src/.
 Two names that would fall together stop it before anything is written.
 """
 
@@ -19,7 +20,7 @@ GENERATED = re.compile(
     r"(decreases|invariant|overflow|bounds|slice_bounds|offset_bounds|nonzero|returns|loop|invariant_of)[-_]|.*-requires$|.*-(init|preserved|smaller)$")
 WORD = re.compile(r"[^\s(){}\[\];,.:\"⌜⌝λ]+")
 
-# Types that were spelled as words, and a name that would fall together with a variant of a fault.
+# Types that were spelled as words, a name that would fall together with a variant of a fault, and a word spelled as a type.
 BY_HAND = {"pair-sound": "PairSound", "parts-sound": "PartsSound", "No-row": "NoneTaken", "Stands-after": "stands_after"}
 
 
