@@ -1,5 +1,6 @@
 -- Cells, parts and names in a byte string.
 use Rattle.std.specs.Prelude.{ℕ, ◌+◌, ◌-◌, ◌*◌, Bool, cond, not, ◌&&◌, List, length, take, drop, Ok, Err, Result, ◌==◌, nat_le, nat_lt, slice_index, slice_range}
+use Rattle.std.specs.Borrow.{Bor}
 use Rattle.std.specs.List.{prefix_len}
 use Rattle.cells.specs.declared.part.Part.{Part}
 
@@ -10,6 +11,14 @@ cell b i = slice_index b i * 16777216 + slice_index b (i + 1) * 65536 + slice_in
 -- from a to e lies within the bytes
 abbrev pub within : List ℕ → ℕ → ℕ → Bool
 within b a e = nat_le a e && nat_le e (length b)
+
+abbrev pub bytes_seen : {F : Type 0} → Result (Bor (List ℕ)) F → Result (List ℕ) F
+bytes_seen (Ok b) = Ok b.now
+bytes_seen (Err f) = Err f
+
+-- the bytes from a up to e
+abbrev pub rest_or : {F : Type 0} → List ℕ → ℕ → ℕ → F → Result (List ℕ) F
+rest_or b a e past = cond (within b a e) (Ok (slice_range b a e)) (Err past)
 
 -- the cell at i, which has to end by e
 abbrev pub cell_or : {F : Type 0} → List ℕ → ℕ → ℕ → F → Result ℕ F

@@ -1,62 +1,62 @@
-ghost use Rattle.std.specs.Prelude.{◌≡◌, ◌+◌, ◌≤◌, length};
-ghost use Rattle.cells.specs.Cells.{cell_or, name_or, part_or, part_seen, leading_nonzero};
+ghost use Rattle.std.specs.Prelude.{◌≡◌, ◌==◌, position};
+ghost use Rattle.cells.specs.Cells.{bytes_seen, cell_or, name_or, part_or, part_seen, rest_or};
 
 use super::part::Part;
 use faults::place::Place;
 
-// The cell at `at`, most significant byte first, or `past` where it does not end by `end` within the bytes.
-pub fn cell_at<F: Copy>(bytes: &[u8], at: usize, end: usize, past: F) -> Result<u32, F>
-    ensures { result ≡ cell_or bytes.now at end past }
-{
-    if end > bytes.len() || at > end || end - at < 4 {
-        return Err(past);
-    }
-    Ok(u32::from_be_bytes([bytes[at], bytes[at + 1], bytes[at + 2], bytes[at + 3]]))
+// A block of a byte string: what is read has to end by `end` within the bytes; `past` answers what does not.
+#[derive(Clone, Copy, PartialEq, Eq, Debug)]
+pub struct Block<'a, F> {
+    pub bytes: &'a [u8],
+    pub end: usize,
+    pub past: F,
 }
 
-// The `size` bytes from `at` on, or `past` where they do not end by `end` within the bytes.
-pub fn part_at<'a, F: Copy>(
-    bytes: &'a [u8],
-    at: usize,
-    size: usize,
-    end: usize,
-    past: F,
-) -> Result<Part<'a>, F>
-    ensures { part_seen result ≡ part_or bytes.now at size end past }
-{
-    if end > bytes.len() || at > end || end - at < size {
-        return Err(past);
+impl<'a, F: Copy> Block<'a, F> {
+    // The bytes from `at` up to the block's end.
+    fn rest(&self, at: usize) -> Result<&'a [u8], F>
+        ensures { bytes_seen result ≡ rest_or self.now.bytes.now at self.now.end self.now.past }
+    {
+        self.bytes.get(at..self.end).ok_or(self.past)
     }
-    Ok(Part {
-        place: Place(at),
-        bytes: &bytes[at..at + size],
-    })
+
+    // The cell at `at`, most significant byte first.
+    pub fn cell(&self, at: usize) -> Result<u32, F>
+        ensures { result ≡ cell_or self.now.bytes.now at self.now.end self.now.past }
+    {
+        match self.rest(at)? {
+            &[a, b, c, d, ..] => Ok(u32::from_be_bytes([a, b, c, d])),
+            _ => Err(self.past),
+        }
+    }
+
+    // The `size` bytes from `at` on.
+    pub fn part(&self, at: usize, size: usize) -> Result<Part<'a>, F>
+        ensures { part_seen result ≡ part_or self.now.bytes.now at size self.now.end self.now.past }
+    {
+        let bytes = self.rest(at)?.get(..size).ok_or(self.past)?;
+        Ok(Part {
+            place: Place(at),
+            bytes,
+        })
+    }
+
+    // The bytes from `at` on up to the first zero byte, which has to come before the block's end.
+    pub fn name(&self, at: usize) -> Result<Part<'a>, F>
+        ensures { part_seen result ≡ name_or self.now.bytes.now at self.now.end self.now.past }
+    {
+        let rest = self.rest(at)?;
+        let size = first_zero(rest).ok_or(self.past)?;
+        Ok(Part {
+            place: Place(at),
+            bytes: &rest[..size],
+        })
+    }
 }
 
-// How many bytes stand before the first zero byte.
-fn name_length(bytes: &[u8]) -> usize
-    ensures { result ≡ leading_nonzero bytes.now }
+// Where the first zero byte stands.
+fn first_zero(bytes: &[u8]) -> Option<usize>
+    ensures { result ≡ position (λ byte. byte == 0) bytes.now }
 {
-    let mut n = 0;
-    while n < bytes.len() && bytes[n] != 0 {
-        n += 1;
-    }
-    n
-}
-
-// The bytes from `at` on up to the first zero byte, or `past` where none comes before `end` within the bytes.
-pub fn name_at<'a, F: Copy>(bytes: &'a [u8], at: usize, end: usize, past: F) -> Result<Part<'a>, F>
-    ensures { part_seen result ≡ name_or bytes.now at end past }
-{
-    if end > bytes.len() || at > end {
-        return Err(past);
-    }
-    let size = name_length(&bytes[at..end]);
-    if size >= end - at {
-        return Err(past);
-    }
-    Ok(Part {
-        place: Place(at),
-        bytes: &bytes[at..at + size],
-    })
+    bytes.iter().position(|byte| *byte == 0)
 }

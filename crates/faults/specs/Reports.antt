@@ -1,5 +1,5 @@
 -- What each fault reports.
-use Rattle.std.specs.Prelude.{ℕ}
+use Rattle.std.specs.Prelude.{ℕ, List, ◌++◌, codes, decimal}
 use Rattle.faults.specs.declared.report.Report.{Report}
 use Rattle.faults.specs.declared.fault.HeaderFault.{HeaderFault}
 use Rattle.faults.specs.declared.fault.HeaderFault.TheVariants.{Size, Magic, Version, Blocks}
@@ -40,3 +40,9 @@ route_report (NoEnd p) = placed 15 p
 route_report (Row p) = placed 16 p
 route_report (NoRow p) = placed 17 p
 route_report (TooManyRows p) = placed 18 p
+
+-- how a report is printed
+abbrev pub report_text : Report → List ℕ
+report_text r =
+    codes "layer " ++ (decimal r.layer ++ (codes ", number " ++ (decimal r.number
+    ++ (codes ", node " ++ (decimal r.node.0 ++ (codes ", property " ++ decimal r.property.0))))))

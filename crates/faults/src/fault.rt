@@ -5,7 +5,7 @@ ghost use Rattle.faults.specs.declared.fault.TokenFault.TheVariants.{Header};
 use super::place::{At, Place};
 
 // Why a header is refused, in the order of testing.
-#[derive(Clone, Copy)]
+#[derive(Clone, Copy, PartialEq, Eq, Debug)]
 pub enum HeaderFault {
     // Fewer than 40 bytes, or a total size under 40, over 65,536 or over the bytes handed in.
     Size,
@@ -18,7 +18,7 @@ pub enum HeaderFault {
 }
 
 // Why the tokens are refused, each with the place of the token; the smaller number counts.
-#[derive(Clone, Copy)]
+#[derive(Clone, Copy, PartialEq, Eq, Debug)]
 pub enum TokenFault {
     // The header's fault, held whole.
     Header(HeaderFault),
@@ -39,7 +39,7 @@ impl From<HeaderFault> for TokenFault {
 }
 
 // Why a tree is not opened, or a specifier has no route.
-#[derive(Clone, Copy)]
+#[derive(Clone, Copy, PartialEq, Eq, Debug)]
 pub enum RouteFault {
     // The fault of the tokens or of the header, held whole.
     Token(TokenFault),

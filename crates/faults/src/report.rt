@@ -1,10 +1,12 @@
-ghost use Rattle.std.specs.Prelude.{◌≡◌};
-ghost use Rattle.faults.specs.Reports.{header_report, placed, report, route_report, token_report};
+ghost use Rattle.std.specs.Prelude.{◌≡◌, Some};
+ghost use Rattle.faults.specs.Reports.{header_report, report, report_text, route_report, token_report};
 
 use super::fault::{HeaderFault, RouteFault, TokenFault};
 use super::place::{At, Place};
+use std::fmt;
 
-// A fault as it is reported: layer, number, the node's place and the property's, 0 where there is none.
+// A fault as it is reported: layer, number, the node's place and the property's, 0 where there is none. Layer and number stay
+// numbers, as they are looked up by their number.
 #[derive(Clone, Copy, PartialEq, Eq, Debug)]
 pub struct Report {
     pub layer: u8,
@@ -13,86 +15,88 @@ pub struct Report {
     pub property: Place,
 }
 
-impl HeaderFault {
-    // Layer 1; both places are 0.
-    pub fn report(self) -> Report
-        ensures { result ≡ header_report self }
+impl Report {
+    fn new(layer: u8, number: u8, node: Place, property: Place) -> Report
+        ensures { result ≡ report layer number node.0 property.0 }
     {
-        let number = match self {
+        Report {
+            layer,
+            number,
+            node,
+            property,
+        }
+    }
+}
+
+impl fmt::Display for Report {
+    ghost output = { λ r. Some (report_text r) };
+
+    fn fmt<W: fmt::Write>(&self, f: &mut fmt::Formatter<W>) -> fmt::Result {
+        let Report {
+            layer,
+            number,
+            node,
+            property,
+        } = *self;
+        write!(
+            f,
+            "layer {layer}, number {number}, node {node}, property {property}"
+        )
+    }
+}
+
+// Layer 1; both places are 0.
+impl From<HeaderFault> for Report {
+    ghost from_gives = { λ fault r. r ≡ header_report fault };
+
+    fn from(fault: HeaderFault) -> Report {
+        let number = match fault {
             HeaderFault::Size => 1,
             HeaderFault::Magic => 2,
             HeaderFault::Version => 3,
             HeaderFault::Blocks => 4,
         };
-        Report {
-            layer: 1,
-            number,
-            node: Place(0),
-            property: Place(0),
+        Report::new(1, number, Place(0), Place(0))
+    }
+}
+
+// Layer 2, with the token's place; or the header's report.
+impl From<TokenFault> for Report {
+    ghost from_gives = { λ fault r. r ≡ token_report fault };
+
+    fn from(fault: TokenFault) -> Report {
+        match fault {
+            TokenFault::Header(f) => f.into(),
+            TokenFault::Past(node) => Report::new(2, 5, node, Place(0)),
+            TokenFault::Rule(node) => Report::new(2, 6, node, Place(0)),
+            TokenFault::Depth(node) => Report::new(2, 7, node, Place(0)),
         }
     }
 }
 
-// A fault of layer 2, which has the token's place.
-fn at_token(number: u8, node: Place) -> Report
-    ensures { result ≡ report 2 number node.0 0 }
-{
-    Report {
-        layer: 2,
-        number,
-        node,
-        property: Place(0),
-    }
-}
+// Layer 3, with both places; or the report of the fault that is held.
+impl From<RouteFault> for Report {
+    ghost from_gives = { λ fault r. r ≡ route_report fault };
 
-impl TokenFault {
-    // Layer 2, with the token's place; or the header's report.
-    pub fn report(self) -> Report
-        ensures { result ≡ token_report self }
-    {
-        match self {
-            TokenFault::Header(f) => f.report(),
-            TokenFault::Past(node) => at_token(5, node),
-            TokenFault::Rule(node) => at_token(6, node),
-            TokenFault::Depth(node) => at_token(7, node),
-        }
-    }
-}
-
-// A fault of layer 3.
-fn met(number: u8, at: At) -> Report
-    ensures { result ≡ placed number at }
-{
-    Report {
-        layer: 3,
-        number,
-        node: at.node,
-        property: at.property,
-    }
-}
-
-impl RouteFault {
-    // Layer 3, with both places; or the report of the fault that is held.
-    pub fn report(self) -> Report
-        ensures { result ≡ route_report self }
-    {
-        match self {
-            RouteFault::Token(f) => f.report(),
-            RouteFault::Value(at) => met(8, at),
-            RouteFault::Phandle(at) => met(9, at),
-            RouteFault::NoNode(at) => met(12, at),
-            RouteFault::NoParent(node) => met(
+    fn from(fault: RouteFault) -> Report {
+        let (number, at) = match fault {
+            RouteFault::Token(f) => return f.into(),
+            RouteFault::Value(at) => (8, at),
+            RouteFault::Phandle(at) => (9, at),
+            RouteFault::NoNode(at) => (12, at),
+            RouteFault::NoParent(node) => (
                 13,
                 At {
                     node,
                     property: Place(0),
                 },
             ),
-            RouteFault::Short(at) => met(14, at),
-            RouteFault::NoEnd(at) => met(15, at),
-            RouteFault::Row(at) => met(16, at),
-            RouteFault::NoRow(at) => met(17, at),
-            RouteFault::TooManyRows(at) => met(18, at),
-        }
+            RouteFault::Short(at) => (14, at),
+            RouteFault::NoEnd(at) => (15, at),
+            RouteFault::Row(at) => (16, at),
+            RouteFault::NoRow(at) => (17, at),
+            RouteFault::TooManyRows(at) => (18, at),
+        };
+        Report::new(3, number, at.node, at.property)
     }
 }

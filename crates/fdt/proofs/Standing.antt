@@ -1,7 +1,7 @@
 -- Names and values stand in the blob where their places say.
-use Rattle.std.proofs.Common.{◌≡◌, ℕ, zero, suc, ◌+◌, ◌-◌, ◌%◌, ◌<◌, ◌≤◌, Bool, true, false, cond, ◌&&◌, eqb, ltb, leb, List, [], ◌∷◌, length, get_or, take, drop, Ok, Err, Result, sym, refl, ap, ◌∙◌, subst, arith}
-use Rattle.std.specs.List.{prefix_len}
+use Rattle.std.proofs.Common.{◌≡◌, ℕ, ◌+◌, ◌-◌, ◌%◌, ◌<◌, ◌≤◌, Bool, true, false, cond, ◌&&◌, eqb, ltb, leb, List, length, get_or, take, drop, Ok, Err, Result, sym, ap, ◌∙◌, subst, arith}
 use Rattle.std.proofs.lemmas.List.{get_or-take, get_or-drop, length-take-le, length-drop}
+use Rattle.std.proofs.lemmas.List.Sums.{prefix_len_passes, prefix_len_stops}
 use Rattle.std.proofs.lemmas.Bool.{leb-true, ltb-true, and_parts}
 use Rattle.std.proofs.lemmas.Bool.Decides.{nat_tests}
 use Rattle.cells.specs.declared.header.Header.{Header}
@@ -11,27 +11,6 @@ use Rattle.cells.specs.Cells.{Piece, within, standing, nonzero, name_size, cell_
 use Rattle.fdt.specs.Tokens.{Word, opens, property, closes, nothing, ends, at, after, align, open_at, property_at, token_by, token_at, ending}
 use Rattle.fdt.specs.Stands.{Stands, Named, WordStands, TokenStands}
 use Rattle.fdt.proofs.Onward.{after_by, cond_ok, ok_same}
-
--- the front of a list that passes a test, and the element that ends it
-module _ {X : Type 0} (p : X → Bool) where
-  passes_more : (x : X) (xs : List X) (d : X) (t : Bool) → p x ≡ t → ((k : ℕ) → k < prefix_len p xs → p (get_or xs k d) ≡ true)
-      → (k : ℕ) → k < cond t (1 + prefix_len p xs) 0 → p (get_or (x ∷ xs) k d) ≡ true
-  passes_more x xs d true e ih zero h = e
-  passes_more x xs d true e ih (suc k) h = ih k (omega arith)
-  passes_more x xs d false e ih k h = absurd (omega arith)
-
-  pub leading_passes : (xs : List X) (d : X) (k : ℕ) → k < prefix_len p xs → p (get_or xs k d) ≡ true
-  leading_passes [] d k h = absurd (omega arith)
-  leading_passes (x ∷ xs) d k h = passes_more x xs d (p x) refl (leading_passes xs d) k h
-
-  stops_more : (x : X) (xs : List X) (d : X) (t : Bool) → p x ≡ t → (prefix_len p xs < length xs → p (get_or xs (prefix_len p xs) d) ≡ false)
-      → cond t (1 + prefix_len p xs) 0 < length (x ∷ xs) → p (get_or (x ∷ xs) (cond t (1 + prefix_len p xs) 0) d) ≡ false
-  stops_more x xs d true e ih h = let s : 1 + prefix_len p xs ≡ suc (prefix_len p xs) = omega arith in rw s (ih (omega arith))
-  stops_more x xs d false e ih h = e
-
-  pub leading_stops : (xs : List X) (d : X) → prefix_len p xs < length xs → p (get_or xs (prefix_len p xs) d) ≡ false
-  leading_stops [] d h = absurd (omega arith)
-  leading_stops (x ∷ xs) d h = stops_more x xs d (p x) refl (leading_stops xs d) h
 
 module _ (b : List ℕ) (a n : ℕ) (h : a + n ≤ length b) where
   piece_size : length (take n (drop a b)) ≡ n
@@ -59,12 +38,12 @@ module _ (b : List ℕ) (a e : ℕ) (inside : e ≤ length b) (short : name_size
         stands = piece_stands b a n (omega arith);
         whole = λ k lt z.
             let m : k < n = omega arith in
-            let g = leading_passes nonzero block 0 k m in
+            let g = prefix_len_passes nonzero block k 0 m in
             let v : get_or block k 0 ≡ 0 = piece_at b a (e - a) (omega arith) k (omega arith) ∙ sym (piece_at b a n (omega arith) k m) ∙ z in
             grind (arith, nat_tests);
         inside = omega arith;
         ended =
-            let g = leading_stops nonzero block 0 (omega arith) in
+            let g = prefix_len_stops nonzero block 0 (omega arith) in
             let v : get_or block n 0 ≡ get_or b (a + n) 0 = piece_at b a (e - a) (omega arith) n short in
             let z : get_or block n 0 ≡ 0 = grind (arith, nat_tests) in
             rw s (sym v ∙ z);

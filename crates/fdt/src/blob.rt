@@ -4,16 +4,17 @@ ghost use Rattle.fdt.specs.Items.{more};
 ghost use Rattle.fdt.specs.Reads.{token_of, tokens_of};
 ghost use Rattle.fdt.specs.Stands.{TokenStands};
 ghost use Rattle.fdt.specs.Unread.{Decided};
+ghost use Rattle.faults.specs.declared.fault.TokenFault.TheVariants.{Past};
 ghost use Rattle.fdt.specs.Tokens.{align, ending, open_at, property_at, step_seen};
 
 use super::token::{Step, Token};
-use cells::cell::{cell_at, name_at, part_at};
+use cells::cell::Block;
 use cells::header::Header;
 use faults::fault::{HeaderFault, TokenFault};
 use faults::place::Place;
 
 // The bytes of a blob up to its total size, with the header that they begin with. Only `new` makes one.
-#[derive(Clone, Copy)]
+#[derive(Clone, Copy, PartialEq, Eq, Debug)]
 pub struct Blob<'a> {
     bytes: &'a [u8],
     header: Header,
@@ -21,20 +22,15 @@ pub struct Blob<'a> {
 
 impl<'a> Blob<'a> {
     // The blob at the front of the bytes, or the first fault of its header, 1 to 4. No byte past the total size is read.
+    #[tactic(auto, using(crate::proofs::Fronts::blob_same))]
     pub fn new(bytes: &'a [u8]) -> Result<Blob<'a>, HeaderFault>
         ensures is { blob_seen result ≡ blob_of bytes.now }
         ensures unread { (c : List ℕ) → SameFront bytes.now c → blob_seen result ≡ blob_of c }
     {
-        Blob::cut(bytes)
-    }
-
-    fn cut(bytes: &'a [u8]) -> Result<Blob<'a>, HeaderFault>
-        ensures { blob_seen result ≡ blob_of bytes.now }
-    {
         let header = Header::read(bytes)?;
         let total = header.total as usize;
         Ok(Blob {
-            bytes: &bytes[0..total],
+            bytes: &bytes[..total],
             header,
         })
     }
@@ -57,33 +53,28 @@ impl<'a> Blob<'a> {
         self.read_token(place)
     }
 
-    // The token that begins with the cell at a place, which is a multiple of 4 in the structure block.
+    // The token that begins with the cell at a place, which is a multiple of 4 in the structure block. What `token_at`
+    // promises besides follows from this, in one step for all kinds of tokens.
     fn read_token(&self, place: Place) -> Result<Step<'a>, TokenFault>
         ensures { step_seen result ≡ token_of self.now place.0 }
     {
-        let i = place.0;
-        let end = self.end();
-        let past = TokenFault::Past(place);
-        if i < self.header.structure as usize || i % 4 != 0 {
-            return Err(past);
+        let at = place.0;
+        let block = self.structure(place);
+        if at < self.header.structure as usize || at % 4 != 0 {
+            return Err(block.past);
         }
-        match cell_at(self.bytes, i, end, past)? {
-            1 => self.open_at(place),
-            2 => Ok(Step {
-                token: Token::Close,
-                next: Place(i + 4),
-            }),
-            3 => self.property_at(place),
-            4 => Ok(Step {
-                token: Token::Nothing,
-                next: Place(i + 4),
-            }),
-            9 => Ok(Step {
-                token: Token::End,
-                next: Place(i + 4),
-            }),
-            _ => Err(past),
-        }
+        let token = match block.cell(at)? {
+            1 => return self.open_at(place),
+            2 => Token::Close,
+            3 => return self.property_at(place),
+            4 => Token::Nothing,
+            9 => Token::End,
+            _ => return Err(block.past),
+        };
+        Ok(Step {
+            token,
+            next: Place(at + 4),
+        })
     }
 
     // Where the structure block ends.
@@ -94,17 +85,29 @@ impl<'a> Blob<'a> {
         self.header.structure as usize + self.header.structure_size as usize
     }
 
+    // The structure block, as it is read for the token at a place.
+    fn structure(&self, place: Place) -> Block<'a, TokenFault>
+        ensures bytes { result.bytes.now ≡ self.now.bytes.now }
+        ensures end { result.end ≡ ending self.now.header }
+        ensures past { result.past ≡ Past place }
+    {
+        Block {
+            bytes: self.bytes,
+            end: self.end(),
+            past: TokenFault::Past(place),
+        }
+    }
+
     // Cell 1, then the node's name, ended by a zero byte and padded.
     fn open_at(&self, place: Place) -> Result<Step<'a>, TokenFault>
         requires { place.0 < 2 ^ 33 }
         ensures { step_seen result ≡ open_at self.now.bytes.now self.now.header place.0 }
     {
-        let i = place.0;
-        let name = name_at(self.bytes, i + 4, self.end(), TokenFault::Past(place))?;
-        let next = aligned(i + 4 + name.bytes.len() + 1);
+        let at = place.0;
+        let name = self.structure(place).name(at + 4)?;
         Ok(Step {
             token: Token::Open(name),
-            next: Place(next),
+            next: aligned(at + 4 + name.bytes.len() + 1),
         })
     }
 
@@ -113,31 +116,28 @@ impl<'a> Blob<'a> {
         requires { place.0 < 2 ^ 33 }
         ensures { step_seen result ≡ property_at self.now.bytes.now self.now.header place.0 }
     {
-        let i = place.0;
-        let end = self.end();
-        let past = TokenFault::Past(place);
-        let size = cell_at(self.bytes, i + 4, end, past)? as usize;
-        let offset = cell_at(self.bytes, i + 8, end, past)? as usize;
-        let value = part_at(self.bytes, i + 12, size, end, past)?;
-        let strings = self.header.strings as usize;
-        let name = name_at(
-            self.bytes,
-            strings + offset,
-            strings + self.header.strings_size as usize,
-            past,
-        )?;
-        let next = aligned(i + 12 + size);
+        let at = place.0;
+        let block = self.structure(place);
+        let size = block.cell(at + 4)? as usize;
+        let offset = block.cell(at + 8)? as usize;
+        let value = block.part(at + 12, size)?;
+        let start = self.header.strings as usize;
+        let strings = Block {
+            end: start + self.header.strings_size as usize,
+            ..block
+        };
+        let name = strings.name(start + offset)?;
         Ok(Step {
             token: Token::Property(name, value),
-            next: Place(next),
+            next: aligned(at + 12 + size),
         })
     }
 }
 
-// The next multiple of 4.
-fn aligned(i: usize) -> usize
-    requires { i + 3 < 2 ^ 64 }
-    ensures { result ≡ align i }
+// The place that is the next multiple of 4.
+fn aligned(at: usize) -> Place
+    requires { at + 3 < 2 ^ 64 }
+    ensures { result.0 ≡ align at }
 {
-    (i + 3) / 4 * 4
+    Place(at.next_multiple_of(4))
 }

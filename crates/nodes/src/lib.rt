@@ -14,16 +14,13 @@ use tree::tree::Tree;
 pub fn node_at<'a>(tree: &Tree<'a>, place: Place) -> Result<Option<Node<'a>>, TokenFault>
     ensures { node_in tree.now result ≡ node_at place.0 (nodes_of tree.now) }
 {
-    let mut at = tree.start();
-    loop {
-        let Some(node) = tree.next_node(at)? else {
-            return Ok(None);
-        };
-        if node.place.0 == place.0 {
+    for node in tree.nodes() {
+        let node = node?;
+        if node.place == place {
             return Ok(Some(node));
         }
-        at = node.body;
     }
+    Ok(None)
 }
 
 // The node that a node is a subnode of; none for the root.
@@ -31,17 +28,14 @@ pub fn parent<'a>(tree: &Tree<'a>, node: &Node<'a>) -> Result<Option<Node<'a>>, 
     ensures { node_in tree.now result ≡ parent_of node.now.place.0 node.now.body.depth (nodes_of tree.now) }
 {
     let mut above = None;
-    let mut at = tree.start();
-    loop {
-        let Some(next) = tree.next_node(at)? else {
-            return Ok(None);
-        };
-        if next.place.0 == node.place.0 {
+    for next in tree.nodes() {
+        let next = next?;
+        if next.place == node.place {
             return Ok(above);
         }
-        if next.body.depth < node.body.depth && node.body.depth - next.body.depth == 1 {
+        if next.body.depth + 1 == node.body.depth {
             above = Some(next);
         }
-        at = next.body;
     }
+    Ok(None)
 }

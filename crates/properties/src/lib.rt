@@ -5,7 +5,6 @@
 ghost use Rattle.std.specs.Prelude.{◌≡◌};
 ghost use Rattle.fdt.specs.Reads.{tokens_of};
 ghost use Rattle.properties.specs.Properties.{PropertyGoes, first_property, property_seen, sought};
-ghost use Rattle.std.specs.Str.{bytes_eq};
 
 use cells::part::Part;
 use faults::fault::TokenFault;
@@ -15,7 +14,7 @@ use fdt::cursor::Cursor;
 use fdt::token::Token;
 
 // A property: the place of its token, its name and value, and the place of the next token.
-#[derive(Clone, Copy)]
+#[derive(Clone, Copy, PartialEq, Eq, Debug)]
 pub struct Property<'a> {
     pub place: Place,
     pub name: Part<'a>,
@@ -41,38 +40,32 @@ impl Drop for Rewind<'_> {
     }
 }
 
-// Whether two names are the same.
-fn same(a: &[u8], b: &[u8]) -> bool
-    ensures { result ≡ bytes_eq a.now b.now }
-{
-    a == b
-}
-
 // The first property from a place on, before the next node, close or end; 5 where a token cannot be read.
 pub fn property_from<'a>(blob: &Blob<'a>, place: Place) -> Result<Option<Property<'a>>, TokenFault>
     ensures is { property_seen result ≡ first_property (tokens_of blob.now place.0) }
     ensures goes { PropertyGoes blob.now.header place.0 result }
 {
-    let mut at = place;
-    loop {
-        let step = blob.token_at(at)?;
+    for read in blob.tokens(place) {
+        let (place, step) = read?;
         match step.token {
             Token::Property(name, value) => {
                 return Ok(Some(Property {
-                    place: at,
+                    place,
                     name,
                     value,
                     next: step.next,
                 }));
             }
-            Token::Nothing => at = step.next,
+            Token::Nothing => {}
             Token::Open(_) | Token::Close | Token::End => return Ok(None),
         }
     }
+    Ok(None)
 }
 
 // The first property of this name, of the node that the cursor stands in, from the cursor on; 5 where a token
-// cannot be read. Found, absent or refused, the cursor is as it was.
+// cannot be read. Found, absent or refused, the cursor is as it was: the loop moves the cursor itself, and is no `for` over
+// tokens, and the guard brings it back on every way out.
 pub fn look_ahead<'a>(
     blob: &Blob<'a>,
     cursor: &mut Cursor,
@@ -88,17 +81,15 @@ pub fn look_ahead<'a>(
         let step = blob.token_at(at)?;
         guard.cursor.place = step.next;
         match step.token {
-            Token::Property(found, value) => {
-                if same(found.bytes, name) {
-                    return Ok(Some(Property {
-                        place: at,
-                        name: found,
-                        value,
-                        next: step.next,
-                    }));
-                }
+            Token::Property(found, value) if found.bytes == name => {
+                return Ok(Some(Property {
+                    place: at,
+                    name: found,
+                    value,
+                    next: step.next,
+                }));
             }
-            Token::Nothing => {}
+            Token::Nothing | Token::Property(_, _) => {}
             Token::Open(_) | Token::Close | Token::End => return Ok(None),
         }
     }

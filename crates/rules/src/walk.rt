@@ -10,7 +10,7 @@ use fdt::cursor::Cursor;
 use fdt::token::Token;
 
 // What may come next: the root, properties or subnodes, subnodes alone, or the end.
-#[derive(Clone, Copy)]
+#[derive(Clone, Copy, PartialEq, Eq, Debug)]
 pub enum Stage {
     Start,
     Properties,
@@ -19,7 +19,7 @@ pub enum Stage {
 }
 
 // A walk over all tokens.
-#[derive(Clone, Copy)]
+#[derive(Clone, Copy, PartialEq, Eq, Debug)]
 pub struct Walk {
     pub cursor: Cursor,
     pub stage: Stage,
@@ -42,68 +42,44 @@ impl Walk {
         ensures is { result ≡ admitted end self (word token.entry) next.0 }
         ensures goes { IfOk result (λ w. w.cursor.place ≡ next) }
     {
-        let place = self.cursor.place;
-        let depth = self.cursor.depth;
-        match token {
-            Token::Open(name) => match self.stage {
-                Stage::Start => {
-                    if name.bytes.len() != 0 {
-                        return Err(TokenFault::Rule(place));
-                    }
-                    Ok(Walk::past(next, 1, Stage::Properties))
-                }
-                Stage::Finished => Err(TokenFault::Rule(place)),
-                Stage::Properties | Stage::Subnodes => {
-                    if depth >= 16 {
-                        return Err(TokenFault::Depth(place));
-                    }
-                    Ok(Walk::past(next, depth + 1, Stage::Properties))
-                }
-            },
-            Token::Property(_, _) => match self.stage {
-                Stage::Properties => Ok(Walk::past(next, depth, Stage::Properties)),
-                Stage::Start | Stage::Subnodes | Stage::Finished => Err(TokenFault::Rule(place)),
-            },
-            Token::Close => {
-                if depth == 0 {
-                    return Err(TokenFault::Rule(place));
-                }
-                if depth == 1 {
-                    return Ok(Walk::past(next, 0, Stage::Finished));
-                }
-                Ok(Walk::past(next, depth - 1, Stage::Subnodes))
+        let Cursor { place, depth } = self.cursor;
+        match (token, self.stage) {
+            (Token::Open(name), Stage::Start) if name.bytes.is_empty() => {
+                Ok(Walk::past(next, 1, Stage::Properties))
             }
-            Token::Nothing => Ok(Walk::past(next, depth, self.stage)),
-            Token::End => match self.stage {
-                Stage::Finished => {
-                    if next.0 != end {
-                        return Err(TokenFault::Rule(place));
-                    }
-                    Ok(Walk::past(next, depth, Stage::Finished))
-                }
-                Stage::Start | Stage::Properties | Stage::Subnodes => Err(TokenFault::Rule(place)),
-            },
+            (Token::Open(_), Stage::Properties | Stage::Subnodes) if depth >= 16 => {
+                Err(TokenFault::Depth(place))
+            }
+            (Token::Open(_), Stage::Properties | Stage::Subnodes) => {
+                Ok(Walk::past(next, depth + 1, Stage::Properties))
+            }
+            (Token::Property(_, _), Stage::Properties) => {
+                Ok(Walk::past(next, depth, Stage::Properties))
+            }
+            (Token::Close, _) if depth == 1 => Ok(Walk::past(next, 0, Stage::Finished)),
+            (Token::Close, _) if depth > 1 => Ok(Walk::past(next, depth - 1, Stage::Subnodes)),
+            (Token::Nothing, stage) => Ok(Walk::past(next, depth, stage)),
+            (Token::End, Stage::Finished) if next.0 == end => {
+                Ok(Walk::past(next, depth, Stage::Finished))
+            }
+            _ => Err(TokenFault::Rule(place)),
         }
     }
 }
 
-// Walks all tokens of the structure block: 5, 6 or 7 at the first token that is refused.
+// Walks all tokens of the structure block: 5, 6 or 7 at the first token that is refused. The walk's own cursor says where the
+// next token stands; a `for` over the tokens would have their end as one more case.
+#[tactic(auto, using(crate::proofs::Trees::accepts))]
 pub fn walk_tokens(blob: &Blob<'_>) -> Result<Walk, TokenFault>
     ensures is { result ≡ walked blob.now.bytes.now blob.now.header }
     ensures exactly { Accepts blob.now.bytes.now blob.now.header result }
-{
-    check_tokens(blob)
-}
-
-fn check_tokens(blob: &Blob<'_>) -> Result<Walk, TokenFault>
-    ensures { result ≡ walked blob.now.bytes.now blob.now.header }
 {
     let end = blob.end();
     let mut at = Walk::past(blob.start(), 0, Stage::Start);
     loop {
         let step = blob.token_at(at.cursor.place)?;
         at = at.admit(step.token, step.next, end)?;
-        if let Token::End = step.token {
+        if matches!(step.token, Token::End) {
             return Ok(at);
         }
     }

@@ -1,5 +1,5 @@
-ghost use Rattle.std.specs.Prelude.{◌≡◌, ◌<◌, Bool, length, drop, OnSome};
-ghost use Rattle.search.specs.First.{FirstFit, first, first_by, first_from};
+ghost use Rattle.std.specs.Prelude.{◌≡◌, Bool};
+ghost use Rattle.search.specs.First.{FirstFit, first};
 
 // A record that is found by a key of its own kind.
 pub trait Keyed {
@@ -17,29 +17,11 @@ pub fn first_match<R: Keyed>(records: &[R], key: &R::Key) -> Option<usize>
     ensures is { result ≡ first (λ x. R.Keyed.fit x key.now) records.now }
     ensures fits { FirstFit (λ x. R.Keyed.fit x key.now) records.now result }
 {
-    scan(records, key)
-}
-
-fn scan<R: Keyed>(records: &[R], key: &R::Key) -> Option<usize>
-    ensures { result ≡ first (λ x. R.Keyed.fit x key.now) records.now }
-{
-    let mut i = 0;
-    loop {
-        match fits_at(records, i, key) {
-            None => return None,
-            Some(true) => return Some(i),
-            Some(false) => i += 1,
+    // A loop and no `position`: with it both promises are answered in the proof, and a wrong body is refused there and not here.
+    for (i, record) in records.iter().enumerate() {
+        if record.fits(key) {
+            return Some(i);
         }
     }
-}
-
-// Whether the record at an index fits the key; none past the last record.
-fn fits_at<R: Keyed>(records: &[R], i: usize, key: &R::Key) -> Option<bool>
-    ensures within { OnSome result (i < length records.now) }
-    ensures rest { first_from (λ x. R.Keyed.fit x key.now) i (drop i records.now) ≡ first_by (λ x. R.Keyed.fit x key.now) i records.now result }
-{
-    if i >= records.len() {
-        return None;
-    }
-    Some(records[i].fits(key))
+    None
 }

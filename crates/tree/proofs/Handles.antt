@@ -1,5 +1,5 @@
 -- The phandles are accepted exactly if they are good and distinct.
-use Rattle.std.proofs.Common.{◌≡◌, ℕ, ◌+◌, Bool, true, false, cond, ◌||◌, eqb, List, [], ◌∷◌, ◌++◌, length, Some, None, Ok, Err, Option, Result, sym, refl, ap, ◌∙◌, subst, append_assoc, append-nil, arith}
+use Rattle.std.proofs.Common.{◌≡◌, ℕ, ◌+◌, Bool, true, false, cond, is_some, ◌||◌, eqb, List, [], ◌∷◌, ◌++◌, length, Some, None, Ok, Err, Option, Result, sym, refl, ap, ◌∙◌, subst, append_assoc, append-nil}
 use Rattle.std.proofs.lemmas.Bool.{eqb-true, eqb-false, eq-eqb, ne_eqb, or_parts, or_from, and_from, and_right}
 use Rattle.faults.specs.declared.fault.TokenFault.{TokenFault}
 use Rattle.fdt.specs.Tokens.{after}
@@ -9,16 +9,15 @@ use Rattle.tree.specs.Nodes.{Entry, Listed, listed, broken}
 use Rattle.tree.specs.Opening.{Readable}
 use Rattle.tree.specs.Phandles.{phandle_name, phandle_of, places, held, one_cell, is_cell, used, good_handle, handle_checked, phandle_checked, phandles_from, handle, GoodPhandles}
 use Rattle.fdt.proofs.Onward.{after_by, cond_ok}
-use Rattle.rules.proofs.Trees.{no_result}
 use Rattle.tree.proofs.Readable.{readable_more}
 
 pub held_ok : {X : Type 0} (r : Result X TokenFault) (x : X) → held r ≡ Ok x → r ≡ Ok x
 held_ok (Ok y) x e = cc
-held_ok (Err f) x e = no_result e
+held_ok (Err f) x e = cc
 
 -- a test that refuses was not passed
 refuses : {X F : Type 0} (t : Bool) (f : F) (r : Result X F) (x : X) → cond t (Err f) r ≡ Ok x → (t ≡ false) × (r ≡ Ok x)
-refuses true f r x e = no_result e
+refuses true f r x e = cc
 refuses false f r x e = (refl, e)
 
 -- the phandle of e is one cell, neither 0 nor 0xffffffff, and no node before has it
@@ -61,7 +60,7 @@ handle_fine node p before has =
 
 pub accepted_fine : (n m : ℕ) (before es : List Listed) → phandles_from n before es ≡ Ok m → Fine before es
 accepted_fine n m before [] e = tt
-accepted_fine n m before (broken f ∷ es) e = no_result e
+accepted_fine n m before (broken f ∷ es) e = cc
 accepted_fine n m before (listed d ∷ es) e =
     after_by (phandle_checked before d) (λ has. phandles_from (cond has (n + 1) n) (before ++ (listed d ∷ [])) es) m (λ has eh rest. (
       (λ p ep. handle_fine d.place p before has (sym (ap (λ r. after (held r) (handle_checked d.place before)) ep) ∙ eh)),
@@ -77,12 +76,7 @@ fine_handle node p before f =
     ∙ ap (λ b. cond b (Err (Phandle (places node p.place))) (after (held (used (handle p) before)) (λ u. cond u (Err (Phandle (places node p.place))) (Ok true)))) o
     ∙ ap (λ r. after (held r) (λ u. cond u (Err (Phandle (places node p.place))) (Ok true))) f.new
 
-has_some : Option Owned → Bool
-has_some None = false
-has_some (Some p) = true
-
-fine_checked : (before : List Listed) (e : Entry) (o : Option Owned) → phandle_of e ≡ Ok o → FineAt before e → phandle_checked before e ≡ Ok (has_some o)
-unfolding has_some
+fine_checked : (before : List Listed) (e : Entry) (o : Option Owned) → phandle_of e ≡ Ok o → FineAt before e → phandle_checked before e ≡ Ok (is_some o)
 fine_checked before e None q f = ap (λ r. after (held r) (handle_checked e.place before)) q
 fine_checked before e (Some p) q f = ap (λ r. after (held r) (handle_checked e.place before)) q ∙ fine_handle e.place p before (f p q)
 
@@ -90,7 +84,7 @@ pub fine_accepted : (n : ℕ) (before es : List Listed) → Readable es → Fine
 fine_accepted n before [] c f = (n, refl)
 fine_accepted n before (broken g ∷ es) c f = absurd c
 fine_accepted n before (listed e ∷ es) c f =
-    let t = has_some (c.0 phandle_name).0 in
+    let t = is_some (c.0 phandle_name).0 in
     let q = fine_checked before e (c.0 phandle_name).0 (c.0 phandle_name).1 f.0 in
     let r = fine_accepted (cond t (n + 1) n) (before ++ (listed e ∷ [])) es c.1 f.1 in
     (r.0, ap (λ z. after z (λ has. phandles_from (cond has (n + 1) n) (before ++ (listed e ∷ [])) es)) q ∙ r.1)
@@ -99,19 +93,17 @@ fine_accepted n before (listed e ∷ es) c f =
 is_cell_yes : (x : ℕ) (p : Owned) → length p.value.bytes ≡ 4 → handle p ≡ x → is_cell x (Some p) ≡ true
 is_cell_yes x p four e = and_from (eqb (length p.value.bytes) 4) (eqb (handle p) x) (eq-eqb (length p.value.bytes) 4 four) (eq-eqb (handle p) x e)
 
-no_yes : {P F : Type 0} → ◌≡◌ {A = Result Bool F} (Ok true) (Ok false) → P
-no_yes e = absurd (let z : ◌≡◌ {A = ℕ} 0 1 = cc in omega arith)
-
 -- past a node that does not have it
 passed : (t : Bool) (r : Result Bool TokenFault) → cond t (Ok true) r ≡ Ok false → r ≡ Ok false
-passed true r e = no_yes e
+passed true r e = cc
 passed false r e = e
 
 used_has : (x : ℕ) (xs ys : List Listed) (d : Entry) (p : Owned) → phandle_of d ≡ Ok (Some p) → length p.value.bytes ≡ 4 → handle p ≡ x
     → used x (xs ++ (listed d ∷ ys)) ≡ Ok false → ⊥
 used_has x [] ys d p q four e u =
-    no_yes (sym (ap (λ r. after r (λ o. cond (is_cell x o) (Ok true) (used x ys))) q ∙ ap (λ t. cond t (Ok true) (used x ys)) (is_cell_yes x p four e)) ∙ u)
-used_has x (broken f ∷ xs) ys d p q four e u = no_result u
+    let yes = is_cell_yes x p four e in
+    cc (ap (λ r. after r (λ o. cond (is_cell x o) (Ok true) (used x ys))) q, ap (λ t. cond t (Ok true) (used x ys)) yes)
+used_has x (broken f ∷ xs) ys d p q four e u = cc
 used_has x (listed c ∷ xs) ys d p q four e u =
     after_by (phandle_of c) (λ o. cond (is_cell x o) (Ok true) (used x (xs ++ (listed d ∷ ys)))) false
     (λ o eo w. used_has x xs ys d p q four e (passed (is_cell x o) (used x (xs ++ (listed d ∷ ys))) w)) u

@@ -1,5 +1,9 @@
+pub mod Counting
+pub mod Depths
 mod Handles
+mod Opened
 mod Opening
+mod Owning
 mod Readable
-mod Using
+mod Taking
 mod Unread

@@ -14,11 +14,11 @@ use Rattle.tree.specs.Opening.{header_held, source_walked, walked_of, open_of, O
 use Rattle.tree.specs.Phandles.{held, phandles}
 use Rattle.tree.proofs.Handles.{held_ok, accepted_fine, fine_accepted, fine_good, good_fine_all}
 use Rattle.tree.proofs.Readable.{readable_nodes}
-use Rattle.rules.proofs.Trees.{no_result, tree_accepted, accepted_tree}
+use Rattle.rules.proofs.Trees.{tree_accepted, accepted_tree}
 
 header_held_ok : {X : Type 0} (r : Result X HeaderFault) (x : X) → header_held r ≡ Ok x → r ≡ Ok x
 header_held_ok (Ok y) x e = cc
-header_held_ok (Err f) x e = no_result e
+header_held_ok (Err f) x e = cc
 
 -- a blob is its header and the bytes up to the total size
 pub blob_parts : (b : List ℕ) (s : Source) (r : Result Header HeaderFault) → blob_from b r ≡ Ok s → (r ≡ Ok s.header) × (s.bytes ≡ take s.header.total b)
@@ -26,7 +26,7 @@ blob_parts b s (Ok h) e =
     let q : source (take h.total b) h ≡ s = ok_same e in
     let hh : h ≡ s.header = ap (λ z. z.header) q in
     (ap Ok hh, sym (ap (λ z. z.bytes) q) ∙ ap (λ (z : Header). take z.total b) hh)
-blob_parts b s (Err f) e = no_result e
+blob_parts b s (Err f) e = cc
 
 pub walk_parts : (b : List ℕ) (s : Source) → walked_of b ≡ Ok s → (blob_of b ≡ Ok s) × ((w : Walk) × (source_walked s ≡ Ok w))
 walk_parts b s =

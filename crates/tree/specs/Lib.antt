@@ -1,3 +1,5 @@
+pub mod Listing
+pub mod NodeProperties
 pub mod Nodes
 pub mod Opening
 pub mod Phandles

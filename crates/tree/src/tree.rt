@@ -6,11 +6,11 @@ use faults::fault::{RouteFault, TokenFault};
 use fdt::blob::Blob;
 use rules::walk::walk_tokens;
 
-pub mod nodes;
 pub mod phandles;
+pub mod reading;
 
 // A blob that opening accepted. Only `open` makes one.
-#[derive(Clone, Copy)]
+#[derive(Clone, Copy, PartialEq, Eq, Debug)]
 pub struct Tree<'a> {
     blob: Blob<'a>,
 }
@@ -24,12 +24,6 @@ impl<'a> Tree<'a> {
         ensures reads { ReadsAll (tree_seen result) }
         ensures decided { DecidedBy bytes.now (tree_seen result) }
         ensures unread { (c : List ℕ) → SameFront bytes.now c → tree_seen result ≡ open_of c }
-    {
-        Tree::read(bytes)
-    }
-
-    fn read(bytes: &'a [u8]) -> Result<Tree<'a>, RouteFault>
-        ensures { tree_seen result ≡ open_of bytes.now }
     {
         let tree = Tree {
             blob: walked(bytes)?,

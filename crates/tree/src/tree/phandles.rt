@@ -5,7 +5,7 @@ ghost use Rattle.tree.specs.Phandles.{is_cell, one_cell, phandle_checked, phandl
 
 use super::Tree;
 use crate::node::Node;
-use cells::cell::cell_at;
+use cells::cell::Block;
 use faults::fault::{RouteFault, TokenFault};
 use faults::place::{At, Place};
 use properties::Property;
@@ -21,20 +21,19 @@ pub fn one_cell(node: Place, property: &Property<'_>) -> Result<u32, RouteFault>
     if property.value.bytes.len() != 4 {
         return Err(fault);
     }
-    cell_at(property.value.bytes, 0, 4, fault)
+    Block {
+        bytes: property.value.bytes,
+        end: 4,
+        past: fault,
+    }
+    .cell(0)
 }
 
 // Whether a property is there and its value is this one cell.
 fn is_cell(property: Option<Property<'_>>, wanted: u32) -> bool
     ensures { result ≡ is_cell wanted (option_seen property.entry) }
 {
-    match property {
-        None => false,
-        Some(p) => match one_cell(p.place, &p) {
-            Ok(cell) => cell == wanted,
-            Err(_) => false,
-        },
-    }
+    property.is_some_and(|p| one_cell(p.place, &p).is_ok_and(|cell| cell == wanted))
 }
 
 impl<'a> Tree<'a> {
@@ -49,33 +48,24 @@ impl<'a> Tree<'a> {
     pub fn node_of_phandle(&self, phandle: u32) -> Result<Option<Node<'a>>, TokenFault>
         ensures { node_in self.now result ≡ with_phandle phandle (nodes_of self.now) }
     {
-        let mut at = self.start();
-        loop {
-            let Some(node) = self.next_node(at)? else {
-                return Ok(None);
-            };
+        for node in self.nodes() {
+            let node = node?;
             if is_cell(self.phandle(&node)?, phandle) {
                 return Ok(Some(node));
             }
-            at = node.body;
         }
+        Ok(None)
     }
 
     // Whether one of the first `count` nodes has this phandle.
+    #[tactic(auto, using(crate::proofs::Taking::take_first))]
     fn is_used(&self, phandle: u32, count: usize) -> Result<bool, TokenFault>
         ensures { result ≡ used phandle (take count (nodes_of self.now)) }
     {
-        let mut at = self.start();
-        let mut left = count;
-        while left > 0 {
-            let Some(node) = self.next_node(at)? else {
-                return Ok(false);
-            };
-            if is_cell(self.phandle(&node)?, phandle) {
+        for node in self.nodes().take(count) {
+            if is_cell(self.phandle(&node?)?, phandle) {
                 return Ok(true);
             }
-            at = node.body;
-            left -= 1;
         }
         Ok(false)
     }
@@ -93,10 +83,7 @@ impl<'a> Tree<'a> {
             node: node.place,
             property: property.place,
         });
-        if phandle == 0 || phandle == 0xffffffff {
-            return Err(fault);
-        }
-        if self.is_used(phandle, count)? {
+        if phandle == 0 || phandle == 0xffffffff || self.is_used(phandle, count)? {
             return Err(fault);
         }
         Ok(true)
@@ -107,17 +94,11 @@ impl<'a> Tree<'a> {
         ensures { result ≡ phandles (nodes_of self.now) }
     {
         let mut found = 0;
-        let mut count = 0;
-        let mut at = self.start();
-        loop {
-            let Some(node) = self.next_node(at)? else {
-                return Ok(found);
-            };
-            if self.check_phandle(&node, count)? {
+        for (count, node) in self.nodes().enumerate() {
+            if self.check_phandle(&node?, count)? {
                 found += 1;
             }
-            count += 1;
-            at = node.body;
         }
+        Ok(found)
     }
 }

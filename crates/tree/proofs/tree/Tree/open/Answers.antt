@@ -1,17 +1,13 @@
-use Rattle.std.proofs.Common.{◌∙◌}
-use Rattle.fdt.proofs.Fronts.{blob_same}
-use Rattle.tree.specs.Opening.{tree_seen}
-use Rattle.tree.proofs.Opening.{opens_exactly, opens_readable, open_same}
-use Rattle.tree.proofs.Unread.{opens_decided}
+use Rattle.std.proofs.Common.{Ok, rules}
+use Rattle.tree.specs.Opening.{blob_source, tree_seen}
+use Rattle.tree.proofs.Opened.{opens}
 use Rattle.tree.proofs.tree.Tree.open.Goals as goal
 
+pub returns-in_err-walked : goal.returns-in_err-walked
+returns-in_err-walked c = opens c.args.bytes.now (tree_seen c.from_residual.result) (search rules)
+
+pub returns-in_err-_count : goal.returns-in_err-_count
+returns-in_err-_count c = opens c.args.bytes.now (tree_seen c.from_residual-in_err-_count.result) (search rules)
+
 pub returns : goal.returns
-returns c =
-    let b = c.args.bytes.now in
-    record {
-      is = c.read.ensures;
-      exactly = opens_exactly b (tree_seen c.read.result) c.read.ensures;
-      reads = opens_readable b (tree_seen c.read.result) c.read.ensures;
-      decided = opens_decided b (tree_seen c.read.result) c.read.ensures;
-      unread = λ d s. c.read.ensures ∙ open_same b d (blob_same b d s);
-    }
+returns c = opens c.args.bytes.now (Ok (blob_source c.in_ok-walked.field-0)) (search rules)

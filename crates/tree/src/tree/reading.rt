@@ -1,7 +1,7 @@
 ghost use Rattle.std.specs.Prelude.{◌≡◌};
 ghost use Rattle.properties.specs.Properties.{PropertyGoes, property_seen, first_property, sought};
 ghost use Rattle.tree.specs.Nodes.{GoesOn, first_node, listed_by};
-ghost use Rattle.tree.specs.Reads.{node_in, nodes_in, nodes_of, tokens_in};
+ghost use Rattle.tree.specs.Reads.{node_in, nodes_in, tokens_in};
 
 use super::Tree;
 use crate::node::Node;
@@ -29,6 +29,7 @@ impl<'a> Tree<'a> {
         ensures goes { GoesOn self.now.blob.header cursor.place.0 result }
     {
         let mut at = cursor;
+        // Place and depth move together, so the loop moves a cursor and is no `for` over the tokens.
         loop {
             let step = self.blob.token_at(at.place)?;
             match step.token {
@@ -47,10 +48,7 @@ impl<'a> Tree<'a> {
                     }));
                 }
                 Token::Close => {
-                    if at.depth == 0 {
-                        return Err(TokenFault::Rule(at.place));
-                    }
-                    at.depth -= 1;
+                    at.depth = at.depth.checked_sub(1).ok_or(TokenFault::Rule(at.place))?;
                 }
                 Token::Property(_, _) | Token::Nothing => {}
                 Token::End => return Ok(None),

@@ -2,7 +2,7 @@ use Rattle.std.proofs.Common.{◌≡◌, ◌-◌, Ok}
 use Rattle.fdt.specs.Tokens.{ending}
 use Rattle.fdt.specs.Items.{items}
 use Rattle.rules.specs.Rules.{checked, walked}
-use Rattle.rules.proofs.walk.check_tokens.Given as goal
+use Rattle.rules.proofs.walk.walk_tokens.Given as goal
 
 -- what is left from here on decides as the whole does
 abbrev pub invariant-loop-step : goal.invariant-loop-step
