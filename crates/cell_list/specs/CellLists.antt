@@ -1,5 +1,6 @@
 -- The cells of a value.
-use Rattle.std.specs.Prelude.{ℕ, ◌+◌, ◌*◌, List, [], ◌∷◌}
+use Rattle.std.specs.Prelude.{ℕ, ◌+◌, ◌*◌, List, [], ◌∷◌, map}
+use Rattle.std.specs.Int.{w32, from_be_bytes}
 use Rattle.cell_list.specs.declared.CellList.{CellList}
 
 -- the numbers of the cells that the bytes are made of, most significant byte first
@@ -10,5 +11,6 @@ cells_of (a ∷ (b ∷ [])) = []
 cells_of (a ∷ (b ∷ (c ∷ []))) = []
 cells_of (a ∷ (b ∷ (c ∷ (d ∷ rest)))) = (a * 16777216 + b * 65536 + c * 256 + d) ∷ cells_of rest
 
+-- the numbers of the cells, each of which is given by its four bytes
 abbrev pub cells_in : CellList → List ℕ
-cells_in l = cells_of l.bytes.now
+cells_in l = map (from_be_bytes w32) l.cells.now

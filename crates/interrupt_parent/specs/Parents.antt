@@ -1,17 +1,17 @@
 -- The interrupt parent of a node.
-use Rattle.std.specs.Prelude.{ℕ, zero, suc, cond, List, Some, None, Ok, Err, codes, Option, Result, ◌==◌}
+use Rattle.std.specs.Prelude.{ℕ, zero, suc, cond, List, Some, None, Ok, Err, codes, Option, Result}
+use Rattle.std.specs.declared.ops.ControlFlow.{ControlFlow}
+use Rattle.std.specs.declared.ops.ControlFlow.TheVariants.{Break, Continue}
 use Rattle.faults.specs.declared.fault.RouteFault.{RouteFault}
 use Rattle.faults.specs.declared.fault.RouteFault.TheVariants.{NoParent}
 use Rattle.fdt.specs.Tokens.{at, after}
 use Rattle.nodes.specs.Finding.{parent_of}
+use Rattle.tree.specs.declared.node.Node.{Node}
 use Rattle.tree.specs.declared.tree.Tree.{Tree}
 use Rattle.tree.specs.Nodes.{Entry, Listed}
 use Rattle.tree.specs.Phandles.{held, places}
 use Rattle.tree.specs.Reads.{entry_in}
-use Rattle.values.specs.declared.property.Cell.{Cell}
-use Rattle.values.specs.Values.{cell_in, has, node_of}
-use Rattle.interrupt_parent.specs.declared.Looked.{Looked}
-use Rattle.interrupt_parent.specs.declared.Looked.TheVariants.{Parent, Further}
+use Rattle.values.specs.Values.{Cell, cell_in, has, node_of}
 
 abbrev pub candidate_by : List Listed → Entry → Option Cell → Result (Option Entry) RouteFault
 candidate_by es e None = held (parent_of e.place e.depth es)
@@ -35,29 +35,19 @@ parent_within (suc k) es device e = after (candidate es e) (parent_by (parent_wi
 unfoldable pub interrupt_parent : List Listed → Entry → Result Entry RouteFault
 interrupt_parent es e = parent_within 64 es e.place e
 
--- a candidate that was looked at
-pub data Seen : Type 0 where
-  parent : Entry → Seen
-  further : Entry → Seen
+-- what becomes of the search at a candidate: it breaks with the interrupt parent, or goes on from another node
+abbrev pub Looked : Type 0 → Type 0
+Looked N = ControlFlow N N
 
-abbrev pub looked : Tree → Looked → Seen
-looked t (Parent n) = parent (entry_in t n)
-looked t (Further n) = further (entry_in t n)
-
-abbrev pub looked_in : Tree → Result Looked RouteFault → Result Seen RouteFault
-looked_in t (Ok l) = Ok (looked t l)
+abbrev pub looked_in : Tree → Result (Looked Node) RouteFault → Result (Looked Entry) RouteFault
+looked_in t (Ok (Break n)) = Ok (Break (entry_in t n))
+looked_in t (Ok (Continue n)) = Ok (Continue (entry_in t n))
 looked_in t (Err f) = Err f
 
-abbrev pub look_by : ℕ → Option Entry → Result Seen RouteFault
+abbrev pub look_by : ℕ → Option Entry → Result (Looked Entry) RouteFault
 look_by device None = Err (NoParent (at device))
-look_by device (Some c) = after (has (codes "#interrupt-cells") c) (λ h. cond h (Ok (parent c)) (Ok (further c)))
+look_by device (Some c) = after (has (codes "#interrupt-cells") c) (λ h. cond h (Ok (Break c)) (Ok (Continue c)))
 
--- what is seen of the next candidate, where so many are left to look at
-abbrev pub look_at : List Listed → ℕ → Entry → ℕ → Result Seen RouteFault
-look_at es device e left = cond (left == 0) (Err (NoParent (at device))) (after (candidate es e) (look_by device))
-
--- the interrupt parent, from what was seen of a candidate
-abbrev pub looked_by : (Entry → Result Entry RouteFault) → Result Seen RouteFault → Result Entry RouteFault
-looked_by next (Err f) = Err f
-looked_by next (Ok (parent c)) = Ok c
-looked_by next (Ok (further c)) = next c
+-- what is seen of the next candidate
+abbrev pub look : List Listed → ℕ → Entry → Result (Looked Entry) RouteFault
+look es device e = after (candidate es e) (look_by device)

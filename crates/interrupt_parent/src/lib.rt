@@ -2,30 +2,27 @@
 //! The definitions are in specs/Parents.antt.
 #![tactic(auto)]
 
-ghost use Rattle.std.specs.Prelude.{◌≡◌, ◌-◌, ◌<◌, OnOk};
-ghost use Rattle.interrupt_parent.specs.Parents.{candidate, interrupt_parent, look_at, looked_by, looked_in, parent_within};
+ghost use Rattle.std.specs.Prelude.{◌≡◌};
+ghost use Rattle.interrupt_parent.specs.Parents.{candidate, interrupt_parent, look, looked_in};
 ghost use Rattle.tree.specs.Reads.{entry_in, nodes_of};
 ghost use Rattle.values.specs.Values.{node_option, place_in};
 
 use faults::fault::RouteFault;
 use faults::place::{At, Place};
 use nodes::parent;
+use std::ops::ControlFlow;
 use tree::node::Node;
 use tree::tree::Tree;
 use values::property::{cell_in, has, node_of};
 
-// A candidate that was looked at: the interrupt parent, or a node from which the search goes on.
-#[derive(Clone, Copy)]
-enum Looked<'a> {
-    Parent(Node<'a>),
-    Further(Node<'a>),
-}
+// How many candidates are looked at.
+const CANDIDATES: usize = 64;
 
 // The node with the phandle in `interrupt-parent`, or without one the parent in the tree; none at the root.
 fn candidate<'a>(tree: &Tree<'a>, node: &Node<'a>) -> Result<Option<Node<'a>>, RouteFault>
     ensures { node_option tree.now result ≡ candidate (nodes_of tree.now) (entry_in tree.now node.now) }
 {
-    match cell_in(tree, node, b"interrupt-parent", 0, 0xffffffff)? {
+    match cell_in(tree, node, b"interrupt-parent", 0, u32::MAX)? {
         None => Ok(parent(tree, node)?),
         Some(cell) => {
             let holder = At {
@@ -37,62 +34,34 @@ fn candidate<'a>(tree: &Tree<'a>, node: &Node<'a>) -> Result<Option<Node<'a>>, R
     }
 }
 
-// Looks at one candidate, where so many are left to look at.
-fn look_at<'a>(
-    tree: &Tree<'a>,
-    device: Place,
-    node: &Node<'a>,
-    left: usize,
-) -> Result<Looked<'a>, RouteFault>
-    ensures is { looked_in tree.now result ≡ look_at (nodes_of tree.now) device.0 (entry_in tree.now node.now) left }
-    ensures some { OnOk result (0 < left) }
-{
-    if left == 0 {
-        return Err(RouteFault::NoParent(device));
-    }
-    let Some(next) = candidate(tree, node)? else {
-        return Err(RouteFault::NoParent(device));
-    };
-    if has(tree, &next, b"#interrupt-cells")? {
-        return Ok(Looked::Parent(next));
-    }
-    Ok(Looked::Further(next))
-}
-
+// Looks at the next candidate: it is the interrupt parent, or the search goes on from it.
 fn look<'a>(
     tree: &Tree<'a>,
     device: Place,
     node: &Node<'a>,
-    left: usize,
-) -> Result<Looked<'a>, RouteFault>
-    ensures some { OnOk result (0 < left) }
-    ensures rest { parent_within left (nodes_of tree.now) device.0 (entry_in tree.now node.now) ≡ looked_by (parent_within (left - 1) (nodes_of tree.now) device.0) (looked_in tree.now result) }
+) -> Result<ControlFlow<Node<'a>, Node<'a>>, RouteFault>
+    ensures { looked_in tree.now result ≡ look (nodes_of tree.now) device.0 (entry_in tree.now node.now) }
 {
-    look_at(tree, device, node, left)
+    let Some(next) = candidate(tree, node)? else {
+        return Err(RouteFault::NoParent(device));
+    };
+    if has(tree, &next, b"#interrupt-cells")? {
+        return Ok(ControlFlow::Break(next));
+    }
+    Ok(ControlFlow::Continue(next))
 }
 
 // The interrupt parent of a device; 8 and 12 for an `interrupt-parent`, 13 where there is none among 64 candidates.
+#[tactic(auto, using(crate::proofs::Further::looked_once, crate::proofs::Further::looked_at_all), unfolding(crate::specs::Parents::interrupt_parent))]
 pub fn interrupt_parent<'a>(tree: &Tree<'a>, device: &Node<'a>) -> Result<Node<'a>, RouteFault>
     ensures { place_in tree.now result ≡ interrupt_parent (nodes_of tree.now) (entry_in tree.now device.now) }
 {
-    parent_within(tree, device, 64)
-}
-
-// The first candidate with `#interrupt-cells`, of at most so many.
-fn parent_within<'a>(
-    tree: &Tree<'a>,
-    device: &Node<'a>,
-    most: usize,
-) -> Result<Node<'a>, RouteFault>
-    ensures { place_in tree.now result ≡ parent_within most (nodes_of tree.now) device.now.place.0 (entry_in tree.now device.now) }
-{
     let mut at = *device;
-    let mut left = most;
-    loop {
-        match look(tree, device.place, &at, left)? {
-            Looked::Parent(node) => return Ok(node),
-            Looked::Further(next) => at = next,
+    for _looked in 0..CANDIDATES {
+        match look(tree, device.place, &at)? {
+            ControlFlow::Break(parent) => return Ok(parent),
+            ControlFlow::Continue(next) => at = next,
         }
-        left -= 1;
     }
+    Err(RouteFault::NoParent(device.place))
 }

@@ -1,14 +1,18 @@
 -- The properties by which the kind and the width of a controller are known.
 use Rattle.std.specs.Prelude.{ℕ, ◌-◌, Bool, cond, not, ◌&&◌, List, length, Some, None, Ok, Err, codes, Option, Result, ◌==◌, nat_lt, slice_index}
+use Rattle.std.specs.Borrow.{Bor}
 use Rattle.faults.specs.declared.fault.RouteFault.{RouteFault}
 use Rattle.faults.specs.declared.fault.RouteFault.TheVariants.{Value}
 use Rattle.fdt.specs.Tokens.{after}
 use Rattle.properties.specs.Properties.{Owned}
 use Rattle.tree.specs.Nodes.{Entry}
 use Rattle.tree.specs.Phandles.{places}
-use Rattle.values.specs.declared.property.Cell.{Cell}
-use Rattle.values.specs.Values.{cell_in, property_of}
-use Rattle.kind_values.specs.declared.Strings.{Strings}
+use Rattle.values.specs.declared.property.Found.{Found}
+use Rattle.values.specs.Values.{Cell, cell_in, property_of}
+
+-- what is found at a property of strings
+abbrev pub Strings : Type 0
+Strings = Found (Bor (List ℕ))
 
 -- a property of strings: its place and its bytes
 pub record Text : Type 0 where
@@ -16,7 +20,7 @@ pub record Text : Type 0 where
   pub bytes : List ℕ
 
 abbrev pub text : Strings → Text
-text s = record { property = s.property.0; bytes = s.bytes.now }
+text s = record { property = s.property.0; bytes = s.value.now }
 
 abbrev pub strings_in : Result Strings RouteFault → Result Text RouteFault
 strings_in (Ok s) = Ok (text s)

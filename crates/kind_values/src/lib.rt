@@ -13,36 +13,30 @@ use faults::place::{At, Place};
 use properties::Property;
 use tree::node::Node;
 use tree::tree::Tree;
+pub use values::property::Strings;
 use values::property::{Cell, cell_in};
-
-// A property of strings: its place, and its bytes, in which each string is ended by a zero byte.
-#[derive(Clone, Copy)]
-pub struct Strings<'a> {
-    pub property: Place,
-    pub bytes: &'a [u8],
-}
 
 // The strings of a property: empty, or ended by a zero byte; 8 where they are not.
 pub fn strings_of<'a>(node: Place, property: &Property<'a>) -> Result<Strings<'a>, RouteFault>
     ensures { strings_in result ≡ strings_by node.0 (owned property.now) }
 {
-    let bytes = property.value.bytes;
-    if bytes.len() > 0 && bytes[bytes.len() - 1] != 0 {
-        return Err(RouteFault::Value(At {
+    match property.value.bytes.last() {
+        None | Some(0) => Ok(Strings {
+            property: property.place,
+            value: property.value.bytes,
+        }),
+        Some(_) => Err(RouteFault::Value(At {
             node,
             property: property.place,
-        }));
+        })),
     }
-    Ok(Strings {
-        property: property.place,
-        bytes,
-    })
 }
 
 // `compatible` of a node; 8 where a string of it is not ended.
 pub fn compatible<'a>(tree: &Tree<'a>, node: &Node<'a>) -> Result<Option<Strings<'a>>, RouteFault>
     ensures { strings_option result ≡ compatible (entry_in tree.now node.now) }
 {
+    // A `match`, since the check does not follow `map` and then `transpose` through the cases of a property that may be there.
     match tree.property(node, b"compatible")? {
         None => Ok(None),
         Some(property) => Ok(Some(strings_of(node.place, &property)?)),

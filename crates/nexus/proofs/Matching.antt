@@ -1,8 +1,10 @@
 -- Child cells are compared cell by cell.
-use Rattle.std.proofs.Common.{◌≡◌, ℕ, suc, ◌+◌, ◌<◌, ◌≤◌, true, false, ◌&&◌, eqb, List, [], ◌∷◌, length, get_or, drop, Option, refl, ap, ◌∙◌, arith}
+use Rattle.std.proofs.Common.{◌≡◌, ℕ, zero, suc, ◌+◌, ◌<◌, ◌≤◌, Bool, true, false, ◌&&◌, eqb, List, [], ◌∷◌, length, get_or, drop, Option, sym, refl, ap, ◌∙◌, arith}
+use Rattle.std.specs.List.{list_all, range_with_len}
 use Rattle.std.specs.Str.{bytes_eq}
 use Rattle.std.proofs.lemmas.List.{drop_more, drop_all}
-use Rattle.std.proofs.lemmas.Bool.{and_right}
+use Rattle.std.proofs.lemmas.Bool.{false_from_ne_true}
+use Rattle.std.proofs.lemmas.Slice.Eq.{bytes_eq-Decides}
 use Rattle.nexus.specs.Nexuses.{under, masked_from}
 
 module _ (mask : Option (List ℕ)) where
@@ -19,12 +21,21 @@ module _ (mask : Option (List ℕ)) where
     pub same_end : length child ≤ i → bytes_eq (drop i child) (masked_from mask i (drop i cells)) ≡ true
     same_end h = let hc : length cells ≤ i = omega arith in rw (drop_all i child h, drop_all i cells hc)
 
--- lists of two lengths are not the same
-pub unequal : (xs ys : List ℕ) → (length xs ≡ length ys → ⊥) → bytes_eq xs ys ≡ false
-unequal [] [] h = absurd (h refl)
-unequal [] (y ∷ ys) h = refl
-unequal (x ∷ xs) [] h = refl
-unequal (x ∷ xs) (y ∷ ys) h = and_right (eqb x y) (bytes_eq xs ys) (unequal xs ys (λ e. h (ap suc e)))
+  -- the child cell at i is the cell to match there
+  abbrev pub same_at : List ℕ → List ℕ → ℕ → Bool
+  same_at child cells i = eqb (get_or child i 0) (under mask i (get_or cells i 0))
 
+  module _ (child cells : List ℕ) (k : length child ≡ length cells) where
+    from_here : (n i : ℕ) → i + n ≡ length child → list_all (same_at child cells) (range_with_len i n) ≡ bytes_eq (drop i child) (masked_from mask i (drop i cells))
+    from_here zero i h = sym (same_end child cells i k (omega arith))
+    from_here (suc n) i h =
+        ap (λ z. same_at child cells i && z) (from_here n (i + 1) (omega arith)) ∙ sym (same_step child cells i k (omega arith))
+
+    pub all_same : list_all (same_at child cells) (range_with_len 0 (length child)) ≡ bytes_eq child (masked_from mask 0 cells)
+    all_same = from_here (length child) 0 (omega arith)
+
+-- lists of two lengths are not the same
 pub not_masked : (mask : Option (List ℕ)) (child cells : List ℕ) → (length child ≡ length cells → ⊥) → bytes_eq child (masked_from mask 0 cells) ≡ false
-not_masked mask child cells h = unequal child (masked_from mask 0 cells) (λ e. h (e ∙ length_masked mask 0 cells))
+not_masked mask child cells h =
+    false_from_ne_true (bytes_eq child (masked_from mask 0 cells))
+    (λ e. h (ap length ((bytes_eq-Decides child (masked_from mask 0 cells)).0 e) ∙ length_masked mask 0 cells))

@@ -1,6 +1,7 @@
 -- What a row that was read is made of, and the rows after it.
 use Rattle.std.proofs.Common.{◌≡◌, ℕ, zero, suc, ◌+◌, ◌-◌, ◌<◌, ◌≤◌, Bool, true, false, cond, eqb, ltb, leb, List, [], ◌∷◌, length, get_or, drop, Ok, Err, Result, refl, ap, arith}
 use Rattle.std.proofs.lemmas.Bool.{ne_eqb, ltb-true, leb-true}
+use Rattle.std.specs.declared.ops.ControlFlow.TheVariants.{Break, Continue}
 use Rattle.faults.specs.declared.fault.RouteFault.{RouteFault}
 use Rattle.faults.specs.declared.fault.RouteFault.TheVariants.{Row}
 use Rattle.fdt.specs.Tokens.{after}
@@ -10,7 +11,7 @@ use Rattle.values.specs.declared.counts.Counts.{Counts}
 use Rattle.values.specs.Counts.{counts_of}
 use Rattle.values.specs.Values.{node_of}
 use Rattle.nexus.specs.Nexuses.{Ready, matches}
-use Rattle.nexus.specs.Rows.{RowSeen, row_of, row_by, row_at, rows_from, Took, take_row, matched, passed, try_row, tried_by}
+use Rattle.nexus.specs.Rows.{RowSeen, row_of, row_by, row_at, rows_from, Took, take_row, try_row, tried_by}
 
 module _ (es : List Listed) (n : Ready) where
   -- what a row that could be read is made of
@@ -63,13 +64,13 @@ module _ (es : List Listed) (n : Ready) where
 
     by_match : (r : RowSeen) → 0 < r.size → (t : Bool)
         → cond t (Ok (take_row row r)) (rows_from es n (row + 1) xs (r.size - 1))
-        ≡ tried_by next (cond t (Ok (matched (take_row row r))) (Ok (passed (drop r.size (x ∷ xs)))))
+        ≡ tried_by next (cond t (Ok (Break (take_row row r))) (Ok (Continue (drop r.size (x ∷ xs)))))
     by_match r h true = refl
     by_match r h false = rows_passed x xs (row + 1) r.size h
 
     by_row : (q : Result RowSeen RouteFault) → ((r : RowSeen) → q ≡ Ok r → 0 < r.size)
         → after q (λ r. cond (matches n r.child) (Ok (take_row row r)) (rows_from es n (row + 1) xs (r.size - 1)))
-        ≡ tried_by next (after q (λ r. cond (matches n r.child) (Ok (matched (take_row row r))) (Ok (passed (drop r.size (x ∷ xs))))))
+        ≡ tried_by next (after q (λ r. cond (matches n r.child) (Ok (Break (take_row row r))) (Ok (Continue (drop r.size (x ∷ xs))))))
     by_row (Err f) h = refl
     by_row (Ok r) h = by_match r (h r refl) (matches n r.child)
 

@@ -1,5 +1,8 @@
 -- The rows of a nexus's map.
 use Rattle.std.specs.Prelude.{ℕ, zero, suc, ◌+◌, ◌-◌, ◌<◌, cond, List, [], ◌∷◌, length, take, drop, Ok, Err, Result, ◌==◌, nat_le, nat_lt, slice_index}
+use Rattle.std.specs.declared.ops.ControlFlow.{ControlFlow}
+use Rattle.std.specs.declared.ops.ControlFlow.TheVariants.{Break, Continue}
+use Rattle.cell_list.specs.declared.CellList.{CellList}
 use Rattle.cell_list.specs.CellLists.{cells_in}
 use Rattle.faults.specs.declared.fault.RouteFault.{RouteFault}
 use Rattle.faults.specs.declared.fault.RouteFault.TheVariants.{Row, NoRow}
@@ -12,8 +15,6 @@ use Rattle.values.specs.Counts.{counts_of}
 use Rattle.values.specs.Values.{node_of}
 use Rattle.nexus.specs.declared.rows.MapRow.{MapRow}
 use Rattle.nexus.specs.declared.rows.Taken.{Taken}
-use Rattle.nexus.specs.declared.rows.Tried.{Tried}
-use Rattle.nexus.specs.declared.rows.Tried.TheVariants.{Matched, Passed}
 use Rattle.nexus.specs.Nexuses.{Ready, matches}
 
 -- a row: its child cells, its parent, the unit address and the specifier that it gives, and how many cells it has
@@ -27,9 +28,9 @@ pub record RowSeen : Type 0 where
 abbrev pub row_in : Tree → Result MapRow RouteFault → Result RowSeen RouteFault
 row_in t (Ok r) = Ok (record {
   child = cells_in r.child;
-  parent = entry_in t r.parent;
-  unit = cells_in r.unit;
-  specifier = cells_in r.specifier;
+  parent = entry_in t r.taken.parent;
+  unit = cells_in r.taken.unit;
+  specifier = cells_in r.taken.specifier;
   size = r.size;
 })
 row_in t (Err f) = Err f
@@ -85,32 +86,28 @@ rows_from es n row (x ∷ xs) zero =
 abbrev pub taken_row : List Listed → Ready → Result Took RouteFault
 taken_row es n = rows_from es n 0 n.map 0
 
--- a row that was tried: taken, or passed with these cells left
-pub data Try : Type 0 where
-  matched : Took → Try
-  passed : List ℕ → Try
+-- what becomes of the search at a row: it breaks with the row that is taken, or goes on in the cells that are left
+abbrev pub Try : Type 0
+Try = ControlFlow Took (List ℕ)
 
-abbrev pub try_seen : Tree → Tried → Try
-try_seen t (Matched k) = matched (took t k)
-try_seen t (Passed l) = passed (cells_in l)
-
-abbrev pub tried_in : Tree → Result Tried RouteFault → Result Try RouteFault
-tried_in t (Ok x) = Ok (try_seen t x)
+abbrev pub tried_in : Tree → Result (ControlFlow Taken CellList) RouteFault → Result Try RouteFault
+tried_in t (Ok (Break k)) = Ok (Break (took t k))
+tried_in t (Ok (Continue l)) = Ok (Continue (cells_in l))
 tried_in t (Err f) = Err f
 
 abbrev pub try_row : List Listed → Ready → ℕ → List ℕ → Result Try RouteFault
 try_row es n row rest =
     cond (length rest == 0) (Err (NoRow n.holder))
-    (after (row_at es n rest) (λ r. cond (matches n r.child) (Ok (matched (take_row row r))) (Ok (passed (drop r.size rest)))))
+    (after (row_at es n rest) (λ r. cond (matches n r.child) (Ok (Break (take_row row r))) (Ok (Continue (drop r.size rest)))))
 
 -- the row that is taken, from what was tried
 abbrev pub tried_by : (List ℕ → Result Took RouteFault) → Result Try RouteFault → Result Took RouteFault
 tried_by next (Err f) = Err f
-tried_by next (Ok (matched k)) = Ok k
-tried_by next (Ok (passed rest)) = next rest
+tried_by next (Ok (Break k)) = Ok k
+tried_by next (Ok (Continue rest)) = next rest
 
 -- fewer than n cells are left after a row that was passed
-abbrev pub TryGoes : ℕ → Result Tried RouteFault → Type 0
-TryGoes n (Ok (Matched k)) = Unit {0}
-TryGoes n (Ok (Passed l)) = length (cells_in l) < n
+abbrev pub TryGoes : ℕ → Result (ControlFlow Taken CellList) RouteFault → Type 0
+TryGoes n (Ok (Break k)) = Unit {0}
+TryGoes n (Ok (Continue l)) = length (cells_in l) < n
 TryGoes n (Err f) = Unit {0}

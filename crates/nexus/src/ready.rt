@@ -1,5 +1,5 @@
 ghost use Rattle.std.specs.Prelude.{◌≡◌, ◌++◌, slice_index};
-ghost use Rattle.cell_list.specs.CellLists.{cells_in};
+ghost use Rattle.cell_list.specs.CellLists.{cells_in as numbers};
 ghost use Rattle.nexus.specs.Nexuses.{list_option, list_seen, mask_of, mask_seen, matches, nexus_at, ready, ready_in, under, unit_address, unit_of};
 ghost use Rattle.properties.specs.Properties.{owned};
 ghost use Rattle.tree.specs.Reads.{entry_in};
@@ -15,7 +15,7 @@ use values::property::{cells_in, whole_cells};
 
 // A nexus at which cells arrived: the places of it and its map, how many child cells its rows have, the unit address and the
 // specifier to match, the mask and the map.
-#[derive(Clone, Copy)]
+#[derive(Clone, Copy, PartialEq, Eq, Debug)]
 pub struct Nexus<'a> {
     pub holder: At,
     pub width: usize,
@@ -43,13 +43,13 @@ fn unit_address<'a>(
             property: Place(0),
         }));
     };
-    if reg.cells.len() < count {
+    if reg.value.len() < count {
         return Err(RouteFault::Row(At {
             node: device.place,
             property: reg.property,
         }));
     }
-    Ok(reg.cells.part(0, count))
+    Ok(reg.value.part(0, count))
 }
 
 // The unit address: what the row gave, or on the first arrival the device's.
@@ -78,13 +78,13 @@ fn mask_of<'a>(
     let Some(mask) = cells_in(tree, node, b"interrupt-map-mask")? else {
         return Ok(None);
     };
-    if mask.cells.len() != width {
+    if mask.value.len() != width {
         return Err(RouteFault::Row(At {
             node: node.place,
             property: mask.property,
         }));
     }
-    Ok(Some(mask.cells))
+    Ok(Some(mask.value))
 }
 
 // The nexus with this map, at which cells arrived: its counts (8, 15, 16), the unit address (8, 16), the mask (8, 16) and the
@@ -97,7 +97,7 @@ pub fn nexus_at<'a>(
     given: Option<CellList<'a>>,
     specifier: CellList<'a>,
 ) -> Result<Nexus<'a>, RouteFault>
-    ensures { ready_in result ≡ nexus_at (entry_in tree.now device.now) (entry_in tree.now node.now) (owned map.now) (list_option given.entry) (cells_in specifier.entry) }
+    ensures { ready_in result ≡ nexus_at (entry_in tree.now device.now) (entry_in tree.now node.now) (owned map.now) (list_option given.entry) (numbers specifier.entry) }
 {
     let counts = counts_of(tree, node)?;
     let unit = unit_of(tree, device, counts.address, given)?;
@@ -113,14 +113,14 @@ pub fn nexus_at<'a>(
         unit,
         specifier,
         mask,
-        map: whole.cells,
+        map: whole.value,
     })
 }
 
 impl<'a> Nexus<'a> {
     // The cell to match at an index, under the mask; without a mask every bit counts.
     fn masked(&self, i: usize) -> u32
-        ensures { result ≡ under (list_option self.now.mask) i (slice_index (cells_in self.now.unit ++ cells_in self.now.specifier) i) }
+        ensures { result ≡ under (list_option self.now.mask) i (slice_index (numbers self.now.unit ++ numbers self.now.specifier) i) }
     {
         let cell = self.cell(i);
         match self.mask {
@@ -131,7 +131,7 @@ impl<'a> Nexus<'a> {
 
     // The cell to match at an index: of the unit address, then of the specifier.
     fn cell(&self, i: usize) -> u32
-        ensures { result ≡ slice_index (cells_in self.now.unit ++ cells_in self.now.specifier) i }
+        ensures { result ≡ slice_index (numbers self.now.unit ++ numbers self.now.specifier) i }
     {
         let count = self.unit.len();
         if i < count {
@@ -142,17 +142,9 @@ impl<'a> Nexus<'a> {
 
     // Whether a row with these child cells matches: they are the cells to match under the mask.
     pub fn matches(&self, child: &CellList<'a>) -> bool
-        ensures { result ≡ matches (ready self.now) (cells_in child.now) }
+        ensures { result ≡ matches (ready self.now) (numbers child.now) }
     {
-        let count = child.len();
-        if count != self.unit.len() + self.specifier.len() {
-            return false;
-        }
-        for i in 0..count {
-            if child.cell(i) != self.masked(i) {
-                return false;
-            }
-        }
-        true
+        let count = self.unit.len() + self.specifier.len();
+        child.len() == count && (0..count).all(|i| child.cell(i) == self.masked(i))
     }
 }

@@ -7,23 +7,14 @@ ghost use Rattle.tree.specs.Reads.{nodes_of};
 use crate::ready::Nexus;
 use cell_list::CellList;
 use faults::fault::RouteFault;
+use std::ops::ControlFlow;
 use tree::node::Node;
 use tree::tree::Tree;
 use values::counts::counts_of;
 use values::property::node_of;
 
-// A row of a map: its child cells, its parent, the unit address and the specifier that it gives, and how many cells it has.
-#[derive(Clone, Copy)]
-struct MapRow<'a> {
-    child: CellList<'a>,
-    parent: Node<'a>,
-    unit: CellList<'a>,
-    specifier: CellList<'a>,
-    size: usize,
-}
-
 // The row that is taken: its number, its parent, and the unit address and the specifier that it gives.
-#[derive(Clone, Copy)]
+#[derive(Clone, Copy, PartialEq, Eq, Debug)]
 pub struct Taken<'a> {
     pub row: usize,
     pub parent: Node<'a>,
@@ -31,21 +22,24 @@ pub struct Taken<'a> {
     pub specifier: CellList<'a>,
 }
 
-// A row that was tried: it matches, or it was passed and these cells are left.
-#[derive(Clone, Copy)]
-enum Tried<'a> {
-    Matched(Taken<'a>),
-    Passed(CellList<'a>),
+// A row of a map: its child cells, what is taken if they match, and how many cells it has.
+#[derive(Clone, Copy, PartialEq, Eq, Debug)]
+struct MapRow<'a> {
+    child: CellList<'a>,
+    taken: Taken<'a>,
+    size: usize,
 }
 
-// The row at the front of the cells. 16 where it passes the end of the map, 12 for its phandle, 8, 15 and 16 for the counts of
-// its parent.
+// The row at the front of the cells, which has this number. 16 where it passes the end of the map, 12 for its phandle, 8, 15 and
+// 16 for the counts of its parent.
 fn read_row<'a>(
     tree: &Tree<'a>,
     nexus: &Nexus<'a>,
     rest: &CellList<'a>,
+    row: usize,
 ) -> Result<MapRow<'a>, RouteFault>
     ensures is { row_in tree.now result ≡ row_at (nodes_of tree.now) (ready nexus.now) (cells_in rest.now) }
+    ensures numbered { IfOk result (λ x. x.taken.row ≡ row) }
     ensures some { IfOk result (λ x. 0 < x.size) }
 {
     let width = nexus.width;
@@ -58,50 +52,40 @@ fn read_row<'a>(
     if given.len() < counts.address + counts.interrupt {
         return Err(RouteFault::Row(nexus.holder));
     }
-    Ok(MapRow {
-        child: rest.part(0, width),
+    let taken = Taken {
+        row,
         parent,
         unit: given.part(0, counts.address),
         specifier: given.part(counts.address, counts.interrupt),
+    };
+    Ok(MapRow {
+        child: rest.part(0, width),
+        taken,
         size: width + 1 + counts.address + counts.interrupt,
     })
 }
 
-// Tries the row at the front of the cells, which has this number; 17 where no cell is left.
+// Tries the row at the front of the cells, which has this number: it is taken, or the search goes on in the cells after it; 17
+// where no cell is left.
+#[tactic(auto, using(crate::proofs::Tries::rows_tried))]
 fn try_row<'a>(
     tree: &Tree<'a>,
     nexus: &Nexus<'a>,
     rest: &CellList<'a>,
     row: usize,
-) -> Result<Tried<'a>, RouteFault>
+) -> Result<ControlFlow<Taken<'a>, CellList<'a>>, RouteFault>
     ensures is { tried_in tree.now result ≡ try_row (nodes_of tree.now) (ready nexus.now) row (cells_in rest.now) }
-    ensures goes { TryGoes (length (cells_in rest.now)) result }
-{
-    if rest.len() == 0 {
-        return Err(RouteFault::NoRow(nexus.holder));
-    }
-    let this = read_row(tree, nexus, rest)?;
-    if nexus.matches(&this.child) {
-        return Ok(Tried::Matched(Taken {
-            row,
-            parent: this.parent,
-            unit: this.unit,
-            specifier: this.specifier,
-        }));
-    }
-    Ok(Tried::Passed(rest.rest(this.size)))
-}
-
-fn first_row<'a>(
-    tree: &Tree<'a>,
-    nexus: &Nexus<'a>,
-    rest: &CellList<'a>,
-    row: usize,
-) -> Result<Tried<'a>, RouteFault>
     ensures goes { TryGoes (length (cells_in rest.now)) result }
     ensures rest { rows_from (nodes_of tree.now) (ready nexus.now) row (cells_in rest.now) 0 ≡ tried_by (λ l. rows_from (nodes_of tree.now) (ready nexus.now) (row + 1) l 0) (tried_in tree.now result) }
 {
-    try_row(tree, nexus, rest, row)
+    if rest.is_empty() {
+        return Err(RouteFault::NoRow(nexus.holder));
+    }
+    let this = read_row(tree, nexus, rest, row)?;
+    if nexus.matches(&this.child) {
+        return Ok(ControlFlow::Break(this.taken));
+    }
+    Ok(ControlFlow::Continue(rest.rest(this.size)))
 }
 
 // The first row of the map that matches; 17 where none does, and the fault of a row before it that cannot be read.
@@ -109,10 +93,11 @@ pub fn taken_row<'a>(tree: &Tree<'a>, nexus: &Nexus<'a>) -> Result<Taken<'a>, Ro
     ensures { took_in tree.now result ≡ taken_row (nodes_of tree.now) (ready nexus.now) }
 {
     let mut rest = nexus.map;
+    // Each row has a cell at least, so there are no more rows than cells.
     for row in 0..nexus.map.len() {
-        match first_row(tree, nexus, &rest, row)? {
-            Tried::Matched(taken) => return Ok(taken),
-            Tried::Passed(left) => rest = left,
+        match try_row(tree, nexus, &rest, row)? {
+            ControlFlow::Break(taken) => return Ok(taken),
+            ControlFlow::Continue(left) => rest = left,
         }
     }
     Err(RouteFault::NoRow(nexus.holder))

@@ -1,8 +1,8 @@
 -- The row that the search finds is the row that is taken.
-use Rattle.std.proofs.Common.{◌≡◌, ℕ, zero, suc, ◌+◌, ◌<◌, ◌≤◌, Bool, true, false, eqb, ltb, leb, ◌⊎◌, List, [], ◌∷◌, ◌++◌, length, get_or, take, drop, Ok, Err, Result, sym, refl, ap, ◌∙◌, subst, inl, inr, arith, length-append}
-use Rattle.std.specs.Str.{bytes_eq}
+use Rattle.std.proofs.Common.{◌≡◌, ℕ, zero, suc, ◌+◌, ◌<◌, ◌≤◌, Bool, true, false, ltb, leb, ◌⊎◌, List, [], ◌∷◌, ◌++◌, length, get_or, take, drop, Ok, Err, Result, sym, refl, ap, ◌∙◌, subst, inl, inr, arith, length-append}
 use Rattle.std.proofs.lemmas.List.{take_at, drop_at, get_or_at, drop-drop, drop_more, take-append-drop, length-take, length-drop}
-use Rattle.std.proofs.lemmas.Bool.{lt-ltb, le-leb, eqb-true, eq-eqb, and_parts, and_from, both_ways}
+use Rattle.std.proofs.lemmas.Bool.{lt-ltb, le-leb, both_ways, false_from_ne_true}
+use Rattle.std.proofs.lemmas.Slice.Eq.{bytes_eq-Decides}
 use Rattle.faults.specs.declared.fault.RouteFault.{RouteFault}
 use Rattle.faults.specs.declared.fault.RouteFault.TheVariants.{NoRow}
 use Rattle.nexus.specs.Nexuses.{Ready, masked, matches}
@@ -12,32 +12,14 @@ use Rattle.tree.specs.Nodes.{Entry, Listed}
 use Rattle.routing.specs.Leads.{IsRow, row_cells, Takes, this, later, Fails, over, unreadable, passed}
 
 pub no_result : {A B : Type 0} {f : RouteFault} {b : B} → ◌≡◌ {A = Result B RouteFault} (Err f) (Ok b) → A
-no_result p = absurd (let z : ◌≡◌ {A = ℕ} 0 1 = cc in omega arith)
+no_result p = cc
 
 -- the test of a row's child cells
-same_refl : (xs : List ℕ) → bytes_eq xs xs ≡ true
-same_refl [] = refl
-same_refl (x ∷ xs) = and_from (eqb x x) (bytes_eq xs xs) (eq-eqb x x refl) (same_refl xs)
-
-same_true : (xs ys : List ℕ) → bytes_eq xs ys ≡ true → xs ≡ ys
-same_true [] [] e = refl
-same_true [] (y ∷ ys) e = absurd (both_ways false refl e)
-same_true (x ∷ xs) [] e = absurd (both_ways false refl e)
-same_true (x ∷ xs) (y ∷ ys) e =
-    let p = and_parts (eqb x y) (bytes_eq xs ys) e in
-    let h = eqb-true x y p.0 in
-    let t = same_true xs ys p.1 in
-    cc
-
 matching : (n : Ready) (child : List ℕ) → child ≡ masked n → matches n child ≡ true
-matching n child e = ap (λ z. bytes_eq z (masked n)) e ∙ same_refl (masked n)
+matching n child = (bytes_eq-Decides child (masked n)).1
 
 not_matching : (n : Ready) (child : List ℕ) → (child ≡ masked n → ⊥) → matches n child ≡ false
-not_matching n child h = go (matches n child) refl
-  where
-    go : (t : Bool) → matches n child ≡ t → t ≡ false
-    go true e = absurd (h (same_true child (masked n) e))
-    go false e = refl
+not_matching n child h = false_from_ne_true (matches n child) (λ e. h ((bytes_eq-Decides child (masked n)).0 e))
 
 differs : (n : Ready) (child : List ℕ) → matches n child ≡ false → child ≡ masked n → ⊥
 differs n child e s = both_ways (matches n child) e (matching n child s)
@@ -191,7 +173,7 @@ module _ (es : List Listed) (n : Ready) where
 
     on_this : matches n (take n.width xs) ≡ true → Either xs
     on_this m = subst (λ (ys : List ℕ). SomeRow ys ⊎ NoneTaken ys) again
-        (inl (record { row = 0; to = w.parent; unit = unit_part; out = specifier_part; takes = this _ _ _ _ _ left is_row (same_true (take n.width xs) (masked n) m) }))
+        (inl (record { row = 0; to = w.parent; unit = unit_part; out = specifier_part; takes = this _ _ _ _ _ left is_row ((bytes_eq-Decides (take n.width xs) (masked n)).0 m) }))
 
     later_row : matches n (take n.width xs) ≡ false → Either left → Either (row_cells (take n.width xs) (get_or xs n.width 0) unit_part specifier_part left)
     later_row m (inl t) = inl (record {

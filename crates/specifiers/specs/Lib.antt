@@ -1,2 +1,3 @@
 pub mod Cuts
+pub mod Lists
 pub mod Specifiers

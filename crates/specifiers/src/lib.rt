@@ -3,11 +3,10 @@
 #![tactic(auto)]
 
 ghost use Rattle.std.specs.Prelude.{◌≡◌, length};
-ghost use Rattle.cell_list.specs.CellLists.{cells_in};
+ghost use Rattle.cell_list.specs.CellLists.{cells_in as numbers};
 ghost use Rattle.specifiers.specs.Cuts.{cuts_by, specifiers_in};
-ghost use Rattle.specifiers.specs.Specifiers.{CutGoes, cut_in, from_interrupts, head_in, head_of, next_specifier, specifiers_from, uncut, uncut_in};
+ghost use Rattle.specifiers.specs.Specifiers.{CutGoes, cut_in, head_in, head_of, next_specifier, specifiers_from, uncut, uncut_in};
 ghost use Rattle.tree.specs.Reads.{entry_in, nodes_of};
-ghost use Rattle.values.specs.Values.{whole};
 
 use cell_list::CellList;
 use faults::fault::RouteFault;
@@ -16,11 +15,13 @@ use interrupt_parent::interrupt_parent;
 use tree::node::Node;
 use tree::tree::Tree;
 use values::counts::interrupt_cells;
-use values::property::{Cells, cells_in, node_of};
+use values::property::{cells_in, node_of};
+
+pub mod list;
 
 // What is not cut yet of a device's specifiers: the property and its cells that are left, the interrupt parent of `interrupts`
 // (each specifier of `interrupts-extended` has a phandle instead), and the index of the next specifier.
-#[derive(Clone, Copy)]
+#[derive(Clone, Copy, PartialEq, Eq, Debug)]
 pub struct Specifiers<'a> {
     pub device: Node<'a>,
     pub property: Place,
@@ -30,7 +31,7 @@ pub struct Specifiers<'a> {
 }
 
 // A specifier: its device and property, its index, the node where it arrives first, and its cells.
-#[derive(Clone, Copy)]
+#[derive(Clone, Copy, PartialEq, Eq, Debug)]
 pub struct Specifier<'a> {
     pub device: Node<'a>,
     pub property: Place,
@@ -40,14 +41,14 @@ pub struct Specifier<'a> {
 }
 
 // A specifier that was cut off, and what is left.
-#[derive(Clone, Copy)]
+#[derive(Clone, Copy, PartialEq, Eq, Debug)]
 pub struct Cut<'a> {
     pub specifier: Specifier<'a>,
     pub rest: Specifiers<'a>,
 }
 
 // The node where a specifier arrives first, and the cells that begin with the specifier's.
-#[derive(Clone, Copy)]
+#[derive(Clone, Copy, PartialEq, Eq, Debug)]
 struct Head<'a> {
     parent: Node<'a>,
     cells: CellList<'a>,
@@ -61,65 +62,43 @@ pub fn specifiers_of<'a>(
 ) -> Result<Option<Specifiers<'a>>, RouteFault>
     ensures { uncut_in tree.now result ≡ specifiers_from (nodes_of tree.now) (entry_in tree.now device.now) }
 {
-    match cells_in(tree, device, b"interrupts-extended")? {
-        Some(found) => {
-            if found.cells.len() == 0 {
-                return Ok(None);
-            }
-            Ok(Some(Specifiers {
-                device: *device,
-                property: found.property,
-                parent: None,
-                left: found.cells,
-                index: 0,
-            }))
-        }
-        None => match cells_in(tree, device, b"interrupts")? {
-            Some(found) => from_interrupts(tree, device, found),
-            None => Ok(None),
-        },
-    }
-}
-
-// The specifiers of a property `interrupts`, which arrive first at the interrupt parent.
-fn from_interrupts<'a>(
-    tree: &Tree<'a>,
-    device: &Node<'a>,
-    found: Cells<'a>,
-) -> Result<Option<Specifiers<'a>>, RouteFault>
-    ensures { uncut_in tree.now result ≡ from_interrupts (nodes_of tree.now) (entry_in tree.now device.now) (whole found.entry) }
-{
-    if found.cells.len() == 0 {
+    let extended = cells_in(tree, device, b"interrupts-extended")?;
+    let found = match extended {
+        Some(found) => Some(found),
+        None => cells_in(tree, device, b"interrupts")?,
+    };
+    let Some(found) = found else {
+        return Ok(None);
+    };
+    if found.value.is_empty() {
         return Ok(None);
     }
-    let parent = interrupt_parent(tree, device)?;
+    let parent = match extended {
+        Some(_) => None,
+        None => Some(interrupt_parent(tree, device)?),
+    };
     Ok(Some(Specifiers {
         device: *device,
         property: found.property,
-        parent: Some(parent),
-        left: found.cells,
+        parent,
+        left: found.value,
         index: 0,
     }))
 }
 
-// The next specifier; none where no cell is left. 12 for a phandle of no node, 8 and 15 for `#interrupt-cells` of the node where
-// it arrives, 14 for too few cells. After a fault the device has no further specifier.
+// The next specifier, with as many cells as `#interrupt-cells` says of the node where it arrives; none where no cell is left.
+// 12 for a phandle of no node, 8 and 15 for `#interrupt-cells`, 14 for too few cells. After a fault the device has no further
+// specifier.
+#[tactic(auto, using(crate::proofs::Cutting::specifiers_is))]
 pub fn next_specifier<'a>(
     tree: &Tree<'a>,
     from: &Specifiers<'a>,
 ) -> Result<Option<Cut<'a>>, RouteFault>
     ensures is { cut_in tree.now result ≡ next_specifier (nodes_of tree.now) (uncut tree.now from.now) }
-    ensures goes { CutGoes (length (cells_in from.now.left)) result }
+    ensures goes { CutGoes (length (numbers from.now.left)) result }
     ensures rest { specifiers_in (nodes_of tree.now) (uncut tree.now from.now) ≡ cuts_by (specifiers_in (nodes_of tree.now)) (cut_in tree.now result) }
 {
-    cut_next(tree, from)
-}
-
-// Cuts off as many cells as `#interrupt-cells` says of the node where they arrive.
-fn cut_next<'a>(tree: &Tree<'a>, from: &Specifiers<'a>) -> Result<Option<Cut<'a>>, RouteFault>
-    ensures { cut_in tree.now result ≡ next_specifier (nodes_of tree.now) (uncut tree.now from.now) }
-{
-    if from.left.len() == 0 {
+    if from.left.is_empty() {
         return Ok(None);
     }
     let head = head_of(tree, from)?;

@@ -1,5 +1,5 @@
 -- How many cells a unit address and a specifier have at a node.
-use Rattle.std.specs.Prelude.{ℕ, Bool, cond, ◌&&◌, ◌||◌, Some, None, Ok, Err, codes, Option, Result, ◌==◌, nat_lt}
+use Rattle.std.specs.Prelude.{ℕ, Bool, cond, ◌&&◌, ◌||◌, List, Some, None, Ok, Err, codes, Option, Result, ◌==◌, nat_lt}
 use Rattle.faults.specs.declared.report.Report.{Report}
 use Rattle.faults.specs.declared.fault.RouteFault.{RouteFault}
 use Rattle.faults.specs.declared.fault.RouteFault.TheVariants.{NoEnd, Row}
@@ -7,21 +7,24 @@ use Rattle.faults.specs.Reports.{route_report}
 use Rattle.fdt.specs.Tokens.{after}
 use Rattle.tree.specs.Nodes.{Entry}
 use Rattle.tree.specs.Phandles.{places}
-use Rattle.values.specs.declared.property.Cell.{Cell}
 use Rattle.values.specs.declared.counts.Counts.{Counts}
-use Rattle.values.specs.Values.{cell_in}
+use Rattle.values.specs.Values.{Cell, cell_in}
 
 abbrev pub count_or : RouteFault → Option Cell → Result ℕ RouteFault
 count_or missing None = Err missing
 count_or missing (Some c) = Ok c.value
 
+-- a count of this name, from low to high; this fault where it is missing
+abbrev pub count_in : List ℕ → ℕ → ℕ → RouteFault → Entry → Result ℕ RouteFault
+count_in name low high missing e = after (cell_in name low high e) (count_or missing)
+
 -- `#interrupt-cells`, 1 to 4; 15 where it is missing
 abbrev pub interrupt_cells : Entry → Result ℕ RouteFault
-interrupt_cells e = after (cell_in (codes "#interrupt-cells") 1 4 e) (count_or (NoEnd (places e.place 0)))
+interrupt_cells e = count_in (codes "#interrupt-cells") 1 4 (NoEnd (places e.place 0)) e
 
 -- `#address-cells`, 0 to 4; 16 where it is missing
 abbrev pub address_cells : Entry → Result ℕ RouteFault
-address_cells e = after (cell_in (codes "#address-cells") 0 4 e) (count_or (Row (places e.place 0)))
+address_cells e = count_in (codes "#address-cells") 0 4 (Row (places e.place 0)) e
 
 -- a has a smaller number than b, or the same and a smaller property place
 abbrev pub before : Report → Report → Bool

@@ -10,9 +10,17 @@ use Rattle.tree.specs.declared.tree.Tree.{Tree}
 use Rattle.tree.specs.Nodes.{Entry, Listed}
 use Rattle.tree.specs.Phandles.{held, one_cell, places, with_phandle}
 use Rattle.tree.specs.Reads.{entry_in}
+use Rattle.cell_list.specs.declared.CellList.{CellList}
 use Rattle.cell_list.specs.CellLists.{cells_in, cells_of}
-use Rattle.values.specs.declared.property.Cell.{Cell}
-use Rattle.values.specs.declared.property.Cells.{Cells}
+use Rattle.values.specs.declared.property.Found.{Found}
+
+-- what is found at a property of one cell
+abbrev pub Cell : Type 0
+Cell = Found ℕ
+
+-- what is found at a property of whole cells
+abbrev pub Cells : Type 0
+Cells = Found CellList
 
 -- the first property of this name of a node
 abbrev pub property_of : List ℕ → Entry → Result (Option Owned) RouteFault
@@ -38,7 +46,7 @@ pub record Whole : Type 0 where
   pub cells : List ℕ
 
 abbrev pub whole : Cells → Whole
-whole c = record { property = c.property.0; cells = cells_in c.cells }
+whole c = record { property = c.property.0; cells = cells_in c.value }
 
 abbrev pub whole_seen : Result Cells RouteFault → Result Whole RouteFault
 whole_seen (Ok c) = Ok (whole c)

@@ -1,15 +1,18 @@
 ghost use Rattle.std.specs.Prelude.{◌≡◌, ◌≤◌, IfOk};
+ghost use Rattle.faults.specs.declared.fault.RouteFault.{RouteFault};
+ghost use Rattle.tree.specs.Phandles.{places};
 ghost use Rattle.tree.specs.Reads.{entry_in};
-ghost use Rattle.values.specs.Counts.{address_cells, both, counts_of, interrupt_cells, sooner};
+ghost use Rattle.values.specs.Counts.{address_cells, both, count_in, counts_of, interrupt_cells, sooner};
 
 use crate::property::cell_in;
 use faults::fault::RouteFault;
 use faults::place::{At, Place};
+use faults::report::Report;
 use tree::node::Node;
 use tree::tree::Tree;
 
 // How many cells a unit address and a specifier have at a node.
-#[derive(Clone, Copy)]
+#[derive(Clone, Copy, PartialEq, Eq, Debug)]
 pub struct Counts {
     pub address: usize,
     pub interrupt: usize,
@@ -20,13 +23,7 @@ pub fn interrupt_cells<'a>(tree: &Tree<'a>, node: &Node<'a>) -> Result<usize, Ro
     ensures is { result ≡ interrupt_cells (entry_in tree.now node.now) }
     ensures some { IfOk result (λ n. (1 ≤ n) × (n ≤ 4)) }
 {
-    match cell_in(tree, node, b"#interrupt-cells", 1, 4)? {
-        None => Err(RouteFault::NoEnd(At {
-            node: node.place,
-            property: Place(0),
-        })),
-        Some(cell) => Ok(cell.value as usize),
-    }
+    count_in(tree, node, b"#interrupt-cells", 1, 4, RouteFault::NoEnd)
 }
 
 // `#address-cells` of a node, 0 to 4; 8 for a wrong one, 16 where it is missing.
@@ -34,28 +31,41 @@ pub fn address_cells<'a>(tree: &Tree<'a>, node: &Node<'a>) -> Result<usize, Rout
     ensures is { result ≡ address_cells (entry_in tree.now node.now) }
     ensures few { IfOk result (λ n. n ≤ 4) }
 {
-    match cell_in(tree, node, b"#address-cells", 0, 4)? {
-        None => Err(RouteFault::Row(At {
-            node: node.place,
-            property: Place(0),
-        })),
-        Some(cell) => Ok(cell.value as usize),
-    }
+    count_in(tree, node, b"#address-cells", 0, 4, RouteFault::Row)
+}
+
+// The count of this name at a node, from `low` to `high`; 8 for a wrong one, and the fault for a missing one.
+fn count_in<'a, F: FnOnce(At) -> RouteFault>(
+    tree: &Tree<'a>,
+    node: &Node<'a>,
+    name: &[u8],
+    low: u32,
+    high: u32,
+    missing: F,
+) -> Result<usize, RouteFault>
+    requires { F.IsAlwaysCallable missing }
+    ensures is { (fault : RouteFault) × F.post missing (places node.now.place.0 0) fault × (result ≡ count_in name.now low high fault (entry_in tree.now node.now)) }
+    ensures range { IfOk result (λ n. (low ≤ n) × (n ≤ high)) }
+{
+    let fault = missing(At {
+        node: node.place,
+        property: Place(0),
+    });
+    let cell = cell_in(tree, node, name, low, high)?.ok_or(fault)?;
+    Ok(cell.value as usize)
 }
 
 // Of two faults at one node the one with the smaller number, then the one with the smaller property place.
 pub fn sooner(a: RouteFault, b: RouteFault) -> RouteFault
     ensures { result ≡ sooner a b }
 {
-    let first = a.report();
-    let second = b.report();
-    if second.number < first.number {
-        return b;
+    let first = Report::from(a);
+    let second = Report::from(b);
+    if (second.number, second.property) < (first.number, first.property) {
+        b
+    } else {
+        a
     }
-    if second.number == first.number && second.property.0 < first.property.0 {
-        return b;
-    }
-    a
 }
 
 // Both counts of a node; of two faults the sooner.
@@ -65,8 +75,7 @@ pub fn counts_of<'a>(tree: &Tree<'a>, node: &Node<'a>) -> Result<Counts, RouteFa
 {
     match (address_cells(tree, node), interrupt_cells(tree, node)) {
         (Ok(address), Ok(interrupt)) => Ok(Counts { address, interrupt }),
-        (Ok(_), Err(fault)) => Err(fault),
-        (Err(fault), Ok(_)) => Err(fault),
         (Err(a), Err(b)) => Err(sooner(a, b)),
+        (Err(fault), Ok(_)) | (Ok(_), Err(fault)) => Err(fault),
     }
 }

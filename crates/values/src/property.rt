@@ -11,19 +11,21 @@ use tree::node::Node;
 use tree::tree::Tree;
 use tree::tree::phandles::one_cell;
 
-// A property of one cell: its place, and its cell.
-#[derive(Clone, Copy)]
-pub struct Cell {
+// What was found at a property: its place, and its value.
+#[derive(Clone, Copy, PartialEq, Eq, Debug)]
+pub struct Found<T> {
     pub property: Place,
-    pub value: u32,
+    pub value: T,
 }
 
-// A property of whole cells: its place, and its cells.
-#[derive(Clone, Copy)]
-pub struct Cells<'a> {
-    pub property: Place,
-    pub cells: CellList<'a>,
-}
+// A property of one cell.
+pub type Cell = Found<u32>;
+
+// A property of whole cells.
+pub type Cells<'a> = Found<CellList<'a>>;
+
+// A property of strings, as its bytes.
+pub type Strings<'a> = Found<&'a [u8]>;
 
 // The first property of this name of a node, which is one cell from `low` to `high`; 8 where it is not.
 pub fn cell_in<'a>(
@@ -35,6 +37,7 @@ pub fn cell_in<'a>(
 ) -> Result<Option<Cell>, RouteFault>
     ensures { result ≡ cell_in name.now low high (entry_in tree.now node.now) }
 {
+    // A `match`, since the check does not follow `map` and then `transpose` through the cases of a property that may be there.
     match tree.property(node, name)? {
         None => Ok(None),
         Some(property) => Ok(Some(cell_within(node.place, &property, low, high)?)),
@@ -51,7 +54,7 @@ fn cell_within(
     ensures { result ≡ cell_within low high node.0 (owned property.now) }
 {
     let value = one_cell(node, property)?;
-    if value < low || value > high {
+    if !(low..=high).contains(&value) {
         return Err(RouteFault::Value(At {
             node,
             property: property.place,
@@ -71,6 +74,7 @@ pub fn cells_in<'a>(
 ) -> Result<Option<Cells<'a>>, RouteFault>
     ensures { found_seen result ≡ cells_within name.now (entry_in tree.now node.now) }
 {
+    // A `match`, as in `cell_in`.
     match tree.property(node, name)? {
         None => Ok(None),
         Some(property) => Ok(Some(whole_cells(node.place, &property)?)),
@@ -89,7 +93,7 @@ pub fn whole_cells<'a>(node: Place, property: &Property<'a>) -> Result<Cells<'a>
     }
     Ok(Cells {
         property: property.place,
-        cells: CellList::new(property.value.bytes),
+        value: CellList::new(property.value.bytes),
     })
 }
 
@@ -104,8 +108,6 @@ pub fn has<'a>(tree: &Tree<'a>, node: &Node<'a>, name: &[u8]) -> Result<bool, Ro
 pub fn node_of<'a>(tree: &Tree<'a>, phandle: u32, holder: At) -> Result<Node<'a>, RouteFault>
     ensures { place_in tree.now result ≡ node_of (nodes_of tree.now) phandle holder }
 {
-    match tree.node_of_phandle(phandle)? {
-        None => Err(RouteFault::NoNode(holder)),
-        Some(node) => Ok(node),
-    }
+    tree.node_of_phandle(phandle)?
+        .ok_or(RouteFault::NoNode(holder))
 }

@@ -1,23 +1,25 @@
-ghost use Rattle.std.specs.Prelude.{◌≡◌, ◌+◌, ◌<◌, [], ◌∷◌, ◌++◌, length, slice_index_or};
-ghost use Rattle.walk.specs.Hops.{hop_at, hops_of, no_hop};
+ghost use Rattle.std.specs.Prelude.{◌≡◌, ◌+◌, ◌<◌, ◌≤◌, [], ◌∷◌, ◌++◌};
 
 use faults::place::Place;
 
 // A row that was taken: the place of its nexus, and its number.
-#[derive(Clone, Copy)]
+#[derive(Clone, Copy, PartialEq, Eq, Debug)]
 pub struct Hop {
     pub nexus: Place,
     pub row: usize,
 }
 
-// The rows taken by a walk, in order, at most eight.
-#[derive(Clone, Copy)]
+// The rows taken by a walk, in order, at most eight. An array and a count, since hops are `Copy`, which no `ArrayVec` is.
+#[derive(Clone, Copy, PartialEq, Eq, Debug)]
 pub struct Hops {
     list: [Hop; 8],
     count: usize,
+    ghost few: { count ≤ 8 },
 }
 
 impl Hops {
+    ghost use Rattle.walk.specs.Hops.{hop_at, hops_of};
+
     // No row is taken yet.
     pub fn none() -> Hops
         ensures list { hops_of result ≡ [] }
@@ -37,36 +39,24 @@ impl Hops {
     pub fn hop(&self, i: usize) -> Option<Hop>
         ensures { result ≡ hop_at i (hops_of self.now) }
     {
-        let hop = self.kept(i.min(7));
-        if i >= 8 {
-            return None;
-        }
-        if i >= self.count {
-            return None;
-        }
-        Some(hop)
+        self.as_slice().get(i).copied()
     }
 
-    // What the array keeps at an index.
-    fn kept(&self, k: usize) -> Hop
-        requires { k < 8 }
-        ensures is { result ≡ slice_index_or self.now.list k no_hop }
-        ensures eight { length self.now.list ≡ 8 }
+    // The hops in order.
+    pub fn as_slice(&self) -> &[Hop]
+        ensures { result.now ≡ hops_of self.now }
     {
-        self.list[k]
+        &self.list[..self.count]
     }
 
     // One row more.
-    pub(crate) fn with(self, hop: Hop) -> Hops
+    pub(crate) fn with(mut self, hop: Hop) -> Hops
         requires { self.count < 8 }
         ensures list { hops_of result ≡ hops_of self ++ hop ∷ [] }
         ensures count { result.count ≡ self.count + 1 }
     {
-        let mut list = self.list;
-        list[self.count] = hop;
-        Hops {
-            list,
-            count: self.count + 1,
-        }
+        self.list[self.count] = hop;
+        self.count += 1;
+        self
     }
 }

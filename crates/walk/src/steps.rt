@@ -20,13 +20,25 @@ use tree::tree::Tree;
 use values::property::has;
 
 // A route: the device's place, the specifier's index, the rows taken, the controller, and the specifier cells that arrive there.
-#[derive(Clone, Copy)]
+#[derive(Clone, Copy, PartialEq, Eq, Debug)]
 pub struct Route<'a> {
     pub device: Place,
     pub index: usize,
     pub hops: Hops,
     pub controller: Node<'a>,
     pub cells: CellList<'a>,
+}
+
+// Cells that arrive at a node: the unit address that a row gave with them, none on the first arrival; the rows taken so far, and
+// how many more are allowed, eight in all.
+#[derive(Clone, Copy, PartialEq, Eq, Debug)]
+struct Arrival<'a> {
+    node: Node<'a>,
+    given: Option<CellList<'a>>,
+    cells: CellList<'a>,
+    hops: Hops,
+    rows_left: usize,
+    ghost eight: { hops.count + rows_left ≡ 8 },
 }
 
 // The walk of a specifier whose cells arrive first at this node, through at most eight rows.
@@ -37,43 +49,37 @@ pub fn walk_from<'a>(
 ) -> Result<Route<'a>, RouteFault>
     ensures { route_in tree.now result ≡ walked (nodes_of tree.now) (specified tree.now specifier.now) (entry_in tree.now node.now) }
 {
-    arrive(
-        tree,
-        specifier,
-        node,
-        None,
-        specifier.cells,
-        8,
-        Hops::none(),
-    )
+    let first = Arrival {
+        node: *node,
+        given: None,
+        cells: specifier.cells,
+        hops: Hops::none(),
+        rows_left: 8,
+    };
+    arrive(tree, specifier, &first)
 }
 
-// Cells arrive at a node, with the unit address that a row gave, none on the first arrival. A controller ends the route; a node
-// with `interrupt-map` is a nexus; any other is 15.
+// A controller ends the route; a node with `interrupt-map` is a nexus; any other is 15.
 #[cycle(arrive_look_up_row)]
 fn arrive<'a>(
     tree: &Tree<'a>,
     specifier: &Specifier<'a>,
-    node: &Node<'a>,
-    given: Option<CellList<'a>>,
-    cells: CellList<'a>,
-    rows_left: usize,
-    hops: Hops,
+    arrival: &Arrival<'a>,
 ) -> Result<Route<'a>, RouteFault>
-    requires { hops.count + rows_left ≡ 8 }
-    ensures { route_in tree.now result ≡ arrived rows_left (nodes_of tree.now) (specified tree.now specifier.now) (entry_in tree.now node.now) (list_option given.entry) (cells_in cells.entry) (hops_of hops) }
+    ensures { route_in tree.now result ≡ arrived arrival.now.rows_left (nodes_of tree.now) (specified tree.now specifier.now) (entry_in tree.now arrival.now.node) (list_option arrival.now.given) (cells_in arrival.now.cells) (hops_of arrival.now.hops) }
 {
+    let node = &arrival.node;
     if has(tree, node, b"interrupt-controller")? {
         return Ok(Route {
             device: specifier.device.place,
             index: specifier.index,
-            hops,
+            hops: arrival.hops,
             controller: *node,
-            cells,
+            cells: arrival.cells,
         });
     }
     match tree.property(node, b"interrupt-map")? {
-        Some(map) => look_up_row(tree, specifier, node, &map, given, cells, rows_left, hops),
+        Some(map) => look_up_row(tree, specifier, arrival, &map),
         None => Err(RouteFault::NoEnd(At {
             node: node.place,
             property: Place(0),
@@ -86,33 +92,34 @@ fn arrive<'a>(
 fn look_up_row<'a>(
     tree: &Tree<'a>,
     specifier: &Specifier<'a>,
-    node: &Node<'a>,
+    arrival: &Arrival<'a>,
     map: &Property<'a>,
-    given: Option<CellList<'a>>,
-    cells: CellList<'a>,
-    rows_left: usize,
-    hops: Hops,
 ) -> Result<Route<'a>, RouteFault>
-    requires { hops.count + rows_left ≡ 8 }
-    ensures { route_in tree.now result ≡ looked_up rows_left (nodes_of tree.now) (specified tree.now specifier.now) (entry_in tree.now node.now) (owned map.now) (list_option given.entry) (cells_in cells.entry) (hops_of hops) }
+    ensures { route_in tree.now result ≡ looked_up arrival.now.rows_left (nodes_of tree.now) (specified tree.now specifier.now) (entry_in tree.now arrival.now.node) (owned map.now) (list_option arrival.now.given) (cells_in arrival.now.cells) (hops_of arrival.now.hops) }
 {
-    let nexus = nexus_at(tree, &specifier.device, node, map, given, cells)?;
+    let node = &arrival.node;
+    let nexus = nexus_at(
+        tree,
+        &specifier.device,
+        node,
+        map,
+        arrival.given,
+        arrival.cells,
+    )?;
     let taken = taken_row(tree, &nexus)?;
-    if rows_left == 0 {
+    if arrival.rows_left == 0 {
         return Err(RouteFault::TooManyRows(nexus.holder));
     }
-    let more = hops.with(Hop {
+    let hop = Hop {
         nexus: node.place,
         row: taken.row,
-    });
-    let unit = Some(taken.unit);
-    arrive(
-        tree,
-        specifier,
-        &taken.parent,
-        unit,
-        taken.specifier,
-        rows_left - 1,
-        more,
-    )
+    };
+    let next = Arrival {
+        node: taken.parent,
+        given: Some(taken.unit),
+        cells: taken.specifier,
+        hops: arrival.hops.with(hop),
+        rows_left: arrival.rows_left - 1,
+    };
+    arrive(tree, specifier, &next)
 }

@@ -12,7 +12,8 @@ use Rattle.walk.proofs.steps.+arrive_look_up_row.Goals as goal
 pub look_up_row-returns : goal.look_up_row-returns
 look_up_row-returns t c =
     let tree = c.args.tree.now in
+    let a = c.args.arrival.now in
     c.arrive.ensures
-    ∙ looked_on (nodes_of tree) (specified tree c.args.specifier.now) c.args.rows_left (entry_in tree c.args.node.now) (owned c.args.map.now)
-    (list_option c.args.given) (cells_in c.args.cells) (hops_of c.args.hops) (ready c.in_ok-nexus.nexus) (took tree c.in_ok-taken.taken)
-    c.in_ok-nexus.ensures c.in_ok-taken.ensures c.if-rows_left-eq0.false (hops_of c.with-more.result) c.with-more.ensures.list
+    ∙ looked_on (nodes_of tree) (specified tree c.args.specifier.now) a.rows_left (entry_in tree a.node) (owned c.args.map.now)
+    (list_option a.given) (cells_in a.cells) (hops_of a.hops) (ready c.in_ok-nexus.nexus) (took tree c.in_ok-taken.taken)
+    c.in_ok-nexus.ensures c.in_ok-taken.ensures c.if-arrival-eq0.false (hops_of c.with.result) c.with.ensures.list
