@@ -1,7 +1,6 @@
 -- What a controller of any kind means: what the one in it means.
-use Rattle.std.specs.Prelude.{List, ℕ}
+use Rattle.std.specs.Prelude.{List, map, ℕ}
 use Rattle.controller.specs.Meaning.{Meaning}
-use Rattle.table.specs.Tables.{TableSound}
 use Rattle.i8259.specs.Offers.{i8259_meaning}
 use Rattle.plic.specs.Offers.{plic_meaning}
 use Rattle.status_mux.specs.Offers.{mux_meaning}
@@ -13,11 +12,6 @@ any_meaning (I8259 x) = i8259_meaning x
 any_meaning (Plic x) = plic_meaning x
 any_meaning (StatusMux x) = mux_meaning x
 
-abbrev pub AnySound : AnyController → Type 0
-AnySound (I8259 x) = TableSound x.table
-AnySound (Plic x) = TableSound x.table
-AnySound (StatusMux x) = TableSound x.table
-
 -- the kind, of a PLIC with the priorities of its lines
 pub data Kind : Type 0 where
   i8259 : Kind
@@ -26,5 +20,5 @@ pub data Kind : Type 0 where
 
 abbrev pub kind_of : AnyController → Kind
 kind_of (I8259 x) = i8259
-kind_of (Plic x) = plic x.levels
+kind_of (Plic x) = plic (map (λ p. p.number) x.order.levels)
 kind_of (StatusMux x) = status_mux

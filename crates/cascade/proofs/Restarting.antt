@@ -1,7 +1,9 @@
 -- What a reset makes of a parent and a child.
-use Rattle.std.proofs.Common.{◌≡◌, ℕ, ◌+◌, ◌<◌, ◌≤◌, Bool, true, false, cond, ltb, leb, List, [], ◌∷◌, ◌++◌, length, set, Some, None, Option, Result, sym, refl, ap, ◌∙◌, ⊎_elim, arith}
-use Rattle.std.proofs.lemmas.List.{length-set, length-map, get_or-map, map-set, map-append, get_or-set_same, set-set}
-use Rattle.std.proofs.lemmas.Bool.{lt-ltb, le-ltb, leb-true, le-leb, cases_lt}
+use Rattle.std.proofs.Common.{◌≡◌, ℕ, ◌+◌, ◌<◌, ◌≤◌, false, List, [], ◌∷◌, ◌++◌, length, set, Some, None, Option, Result, sym, refl, ap, ◌∙◌, arith}
+use Rattle.std.proofs.lemmas.Grind.{common_steps}
+use Rattle.std.proofs.lemmas.Bool.Decides.{nat_tests}
+use Rattle.std.proofs.lemmas.List.{length-set, get_or-map, map-set, map-append, get_or-set_same, set-set}
+use Rattle.std.specs.Result.{is_err}
 use Rattle.line.specs.declared.row.Row.{Row}
 use Rattle.line.specs.declared.row.Sense.TheVariants.{Following}
 use Rattle.line.specs.declared.row.Step.TheVariants.{Reset}
@@ -12,15 +14,13 @@ use Rattle.controller.specs.declared.call.Change.TheVariants.{Mask, Sense}
 use Rattle.controller.specs.Calls.{guard, step_of}
 use Rattle.controller.specs.Meaning.{Meaning, Changed, at, moved, all_reset}
 use Rattle.cascade.specs.declared.fault.CascadeFault.{CascadeFault}
-use Rattle.cascade.specs.declared.fault.CascadeFault.TheVariants.{NoLine, TooWide}
 use Rattle.cascade.specs.Pairs.{pair_lines, pair, used, busy, Linked, Tied, Bound, Settled}
-use Rattle.cascade.specs.Questions.{if_open, question_of, made_by, made_lines, wired_by, made_wired}
-use Rattle.cascade.specs.Places.{nothing, within}
+use Rattle.cascade.specs.Questions.{question_of, outcome, made_lines, wired_by, made_wired}
+use Rattle.cascade.specs.Places.{within}
 use Rattle.cascade.proofs.Serving.{accepted_at}
 
 unused_reset : (x : Option Row) → used (moved Reset x) ≡ 0
-unused_reset None = refl
-unused_reset (Some r) = refl
+unused_reset x = grind arith
 
 busy_reset : (ls : List (Option Row)) → busy (all_reset ls) ≡ 0
 busy_reset [] = refl
@@ -69,28 +69,15 @@ reset_again (Some r ∷ xs) = ap (λ (ys : List (Option Row)). Some (reset r) �
 
 -- the lines of a pair whose parts were reset
 pair_reset : (ps cs : List (Option Row)) (k : ℕ) → pair_lines k (all_reset ps) (all_reset cs) ≡ all_reset (pair_lines k ps cs)
-pair_reset ps cs k =
-    ap (λ (ls : List (Option Row)). ls ++ all_reset cs) (sym (map-set (moved Reset) ps k None))
-    ∙ sym (map-append (moved Reset) (set ps k None) cs)
+pair_reset ps cs k = grind (arith, map-set, map-append)
 
-open_slot : (x : Option Row) (b : Bool) → if_open x (cond b None (Some TooWide)) ≡ None → (r : Row) × (x ≡ Some r) × (b ≡ true)
-open_slot None b e = nothing (let z : ◌≡◌ {A = ℕ} 0 1 = cc in z)
-open_slot (Some r) true e = (r, refl, refl)
-open_slot (Some r) false e = nothing (let z : ◌≡◌ {A = ℕ} 0 1 = cc in z)
+-- a question whose answer is no error has no refusal
+pub no_refusal : (r : Result (Unit {0}) CascadeFault) (u : Option CascadeFault) → r ≡ outcome u → false ≡ is_err r → u ≡ None
+no_refusal r u e n = grind arith
 
 -- where the question has no refusal, k is open and there is room
 allowed_at : (ps cs : List (Option Row)) (k : ℕ) → question_of ps cs k ≡ None → (r : Row) × (at ps k ≡ Some r) × (length ps + length cs ≤ 256)
-allowed_at ps cs k e =
-    ⊎_elim
-    (λ (h : k < length ps).
-    let b : ltb k (length ps) ≡ true = lt-ltb k (length ps) h in
-    let s = open_slot (at ps k) (leb (length ps + length cs) 256) (rw b at e) in
-    (s.0, s.1, leb-true (length ps + length cs) 256 s.2))
-    (λ (h : length ps ≤ k).
-    let b : ltb k (length ps) ≡ false = le-ltb k (length ps) h in
-    let y : Some NoLine ≡ None = rw b at e in
-    nothing (let z : ◌≡◌ {A = ℕ} 0 1 = cc in z))
-    (cases_lt k (length ps))
+allowed_at ps cs k e = grind (arith, nat_tests)
 
 -- a parent p and a child c as resets leave them, k made following and unmasked, then driven
 module _ (p p₂ p₃ p₄ c : Meaning) (k : ℕ) (ep : p.lines ≡ all_reset p.lines) (ec : c.lines ≡ all_reset c.lines) where
@@ -108,52 +95,23 @@ module _ (p p₂ p₃ p₄ c : Meaning) (k : ℕ) (ep : p.lines ≡ all_reset p.
       let e = rest_lines d s in
       e ∙ sym (reset_again (pair_lines k p.lines c.lines)) ∙ ap all_reset (sym e)
 
-open_reset : (x : Option Row) (u : Option CascadeFault) → if_open (moved Reset x) u ≡ if_open x u
-open_reset None u = refl
-open_reset (Some r) u = refl
-
 -- the question is answered alike before and after a reset
 question_reset : (ps ps₁ cs cs₁ : List (Option Row)) (k : ℕ) → ps₁ ≡ all_reset ps → cs₁ ≡ all_reset cs → question_of ps₁ cs₁ k ≡ question_of ps cs k
-question_reset ps ps₁ cs cs₁ k ep ec =
-    let np : length ps₁ ≡ length ps = ap (length {A = Option Row}) ep ∙ length-map ps (moved Reset) in
-    let nc : length cs₁ ≡ length cs = ap (length {A = Option Row}) ec ∙ length-map cs (moved Reset) in
-    ⊎_elim
-    (λ (h : k < length ps).
-    let a : at ps₁ k ≡ moved Reset (at ps k) = ap (λ (ls : List (Option Row)). at ls k) ep ∙ get_or-map (moved Reset) ps k None None h in
-    let u : Option CascadeFault = cond (leb (length ps + length cs) 256) None (Some TooWide) in
-    let o : if_open (moved Reset (at ps k)) u ≡ if_open (at ps k) u = open_reset (at ps k) u in
-    let b : ltb k (length ps) ≡ true = lt-ltb k (length ps) h in
-    rw (np, nc, a, b) o)
-    (λ (h : length ps ≤ k).
-    let b : ltb k (length ps) ≡ false = le-ltb k (length ps) h in
-    rw (np, b))
-    (cases_lt k (length ps))
+question_reset ps ps₁ cs cs₁ k ep ec = grind (arith, common_steps, nat_tests)
 
 pub made_paired : (ps ps₁ cs cs₁ : List (Option Row)) (k : ℕ) (ls : List (Option Row)) → ps₁ ≡ all_reset ps → cs₁ ≡ all_reset cs → question_of ps₁ cs₁ k ≡ None → ls ≡ all_reset (pair_lines k ps₁ cs₁) → ls ≡ made_lines ps cs (Some k)
 made_paired ps ps₁ cs cs₁ k ls ep ec u e =
-    let v : question_of ps cs k ≡ None = sym (question_reset ps ps₁ cs cs₁ k ep ec) ∙ u in
-    e ∙ ap (λ (xs : List (Option Row)). all_reset (pair_lines k xs cs₁)) ep
-    ∙ ap (λ (xs : List (Option Row)). all_reset (pair_lines k (all_reset ps) xs)) ec
-    ∙ ap all_reset (pair_reset ps cs k)
-    ∙ reset_again (pair_lines k ps cs)
-    ∙ ap (made_by ps cs k) (sym v)
-
-pub made_alone : (ps ps₁ cs cs₁ : List (Option Row)) (k : ℕ) (f : CascadeFault) → ps₁ ≡ all_reset ps → cs₁ ≡ all_reset cs → question_of ps₁ cs₁ k ≡ Some f → ps₁ ≡ made_lines ps cs (Some k)
-made_alone ps ps₁ cs cs₁ k f ep ec u =
-    let v : question_of ps cs k ≡ Some f = sym (question_reset ps ps₁ cs cs₁ k ep ec) ∙ u in
-    ep ∙ ap (made_by ps cs k) (sym v)
+    let q = question_reset ps ps₁ cs cs₁ k ep ec in
+    let r = pair_reset ps cs k in
+    let a = reset_again (pair_lines k ps cs) in
+    cc
 
 pub wired_as : (ps ps₁ cs cs₁ : List (Option Row)) (k : ℕ) (u : Option CascadeFault) → ps₁ ≡ all_reset ps → cs₁ ≡ all_reset cs → question_of ps₁ cs₁ k ≡ u → wired_by k u ≡ made_wired ps cs (Some k)
-wired_as ps ps₁ cs cs₁ k u ep ec q = ap (wired_by k) (sym (sym (question_reset ps ps₁ cs cs₁ k ep ec) ∙ q))
+wired_as ps ps₁ cs cs₁ k u ep ec q = let r = question_reset ps ps₁ cs cs₁ k ep ec in cc
 
 -- a pair that is tied is allowed
 pub still : (p c : Meaning) (k : ℕ) → Tied p c k → question_of p.lines c.lines k ≡ None
-still p c k t =
-    let s : at p.lines k ≡ Some t.link.row = t.link.slot in
-    let a : ltb k (length p.lines) ≡ true = lt-ltb k (length p.lines) (within p.lines k t.link.row s) in
-    let b : leb (length p.lines + length c.lines) 256 ≡ true = le-leb (length p.lines + length c.lines) 256 t.link.room in
-    rw (a, s, b)
+still p c k t = grind (arith, common_steps, nat_tests)
 
 pub made_again : (p c : Meaning) (o : Option ℕ) → Bound p c o → made_lines p.lines c.lines o ≡ all_reset (pair p c o).lines
-made_again p c None b = refl
-made_again p c (Some k) t = ap (made_by p.lines c.lines k) (still p c k t)
+made_again p c o b = grind (arith, still)

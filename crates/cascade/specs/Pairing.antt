@@ -1,8 +1,10 @@
 -- A pair of lawful controllers is lawful, and a change of a line of the pair is one of its part's.
-use Rattle.std.specs.Prelude.{◌≡◌, ℕ, ◌+◌, ◌-◌, ◌<◌, ◌≤◌, Bool, true, false, not, ◌&&◌, List, ◌++◌, length, is_some, Some, None, Ok, Err, Option, Result, ◌==◌, ◌≢◌, nat_lt, slice_set, refl}
+use Rattle.std.specs.Prelude.{◌≡◌, ℕ, ◌+◌, ◌-◌, ◌<◌, ◌≤◌, Bool, true, false, not, ◌&&◌, List, length, is_some, Some, None, Ok, Err, Option, Result, ◌≢◌, nat_lt, slice_set, refl}
 use Rattle.std.proofs.Common.{sym, ap, ◌∙◌, ⊎_elim, arith}
+use Rattle.std.proofs.lemmas.Grind.{common_steps}
+use Rattle.std.proofs.lemmas.Bool.Decides.{nat_tests}
 use Rattle.std.proofs.lemmas.List.{length-set, get_or-set_same, get_or-set_other, set-set}
-use Rattle.std.proofs.lemmas.Bool.{cases_eq, lt-ltb, eq-eqb, ne_eqb, cond-true, cond-false, and_parts, and_from, not_from_false}
+use Rattle.std.proofs.lemmas.Bool.{cases_eq, lt-ltb, and_from, not_from_false}
 use Rattle.std.specs.Option.{option_map}
 use Rattle.line.specs.declared.row.Row.{Row}
 use Rattle.line.specs.declared.row.Step.{Step}
@@ -14,20 +16,20 @@ use Rattle.controller.specs.declared.call.Change.{Change}
 use Rattle.controller.specs.declared.call.Change.TheVariants.{Drive}
 use Rattle.controller.specs.Calls.{step_of}
 use Rattle.controller.specs.Meaning.{Meaning, Lawful, Changed, Accepted, Refused, Waits, at, refusal, moved, step_at}
-use Rattle.cascade.specs.Pairs.{pair_offer, pair_lines, cascaded, pair, busy, Linked, Tied, Bound, Settled}
+use Rattle.cascade.specs.Pairs.{pair_offer, pair_lines, cascaded, pair, Linked, Tied, Bound, Settled}
 use Rattle.cascade.specs.declared.pair.Side.TheVariants.{Parent, Wired, Child}
 use Rattle.cascade.specs.Sides.{side_of}
 use Rattle.cascade.specs.SidesLemmas.{parent_side, wired_side, child_side}
-use Rattle.cascade.specs.Places.{nothing, within, left, right, gap, split, pair_wide, refusal_left, refusal_right, step_left, step_right, busy_step, unused, zero_busy}
+use Rattle.cascade.specs.Places.{within, left, right, gap, split, pair_wide, refusal_left, refusal_right, step_left, step_right, busy_step, unused, zero_busy}
 
 requested : (r : Row) → waits r ≡ true → r.request ≡ true
-requested r e = (and_parts r.request (not r.service && not r.mask) e).0
+requested r e = grind arith
 
 pub offer_here : (i k w : ℕ) (co : Option ℕ) → i ≡ k → pair_offer k w (Some i) co ≡ option_map (λ c. w + c) co
-offer_here i k w co q = cond-true (i == k) (option_map (λ c. w + c) co) (Some i) (eq-eqb i k q)
+offer_here i k w co q = grind (arith, nat_tests)
 
 pub offer_there : (i k w : ℕ) (co : Option ℕ) → (i ≢ k) → pair_offer k w (Some i) co ≡ Some i
-offer_there i k w co n = cond-false (i == k) (option_map (λ c. w + c) co) (Some i) (ne_eqb i k n)
+offer_there i k w co n = grind (arith, nat_tests)
 
 module _ (p c : Meaning) (k : ℕ) (lp : Lawful p) (lc : Lawful c) (t : Tied p c k) where
   k_in : k < length p.lines
@@ -60,11 +62,11 @@ module _ (p c : Meaning) (k : ℕ) (lp : Lawful p) (lc : Lawful c) (t : Tied p c
       (w.0, left p.lines c.lines k i (within p.lines i w.0 w.1) n ∙ w.1, w.2)
 
   waiting_here : (co : Option ℕ) (i : ℕ) → c.offer ≡ co → option_map (λ d. length p.lines + d) co ≡ Some i → Waits (pair_lines k p.lines c.lines) i
-  waiting_here None i ec e = nothing (let z : ◌≡◌ {A = ℕ} 0 1 = cc in z)
+  waiting_here None i ec e = absurd cc
   waiting_here (Some d) i ec e = let q : length p.lines + d ≡ i = cc in from_child d i ec q
 
   waiting_at : (po : Option ℕ) (i : ℕ) → p.offer ≡ po → pair_offer k (length p.lines) po c.offer ≡ Some i → Waits (pair_lines k p.lines c.lines) i
-  waiting_at None i ep e = nothing (let z : ◌≡◌ {A = ℕ} 0 1 = cc in z)
+  waiting_at None i ep e = absurd cc
   waiting_at (Some j) i ep e =
       ⊎_elim
       (λ (q : j ≡ k). waiting_here c.offer i refl (sym (offer_here j k (length p.lines) c.offer q) ∙ e))
@@ -75,8 +77,7 @@ module _ (p c : Meaning) (k : ℕ) (lp : Lawful p) (lc : Lawful c) (t : Tied p c
       (cases_eq j k)
 
   mapped_some : (w : ℕ) (co : Option ℕ) → is_some co ≡ true → is_some (option_map (λ d. w + d) co) ≡ true
-  mapped_some w None e = e
-  mapped_some w (Some d) e = refl
+  mapped_some w co e = grind arith
 
   offers : (po : Option ℕ) → p.offer ≡ po → is_some po ≡ true → is_some (pair_offer k (length p.lines) po c.offer) ≡ true
   offers None ep e = e
@@ -163,21 +164,14 @@ parent_tied p p' c k ch i (Err e) n a t = rw a.same t
 
 -- a step of a line of the child that leaves its service
 pub child_link : (p c c' : Meaning) (k : ℕ) (s : Step) (i : ℕ) → ((r : Row) → (stepped s r).service ≡ r.service) → c'.lines ≡ step_at s c.lines i → Linked p c k → Linked p c' k
-child_link p c c' k s i keeps e l = record {
-  row = l.row;
-  slot = l.slot;
-  follows = l.follows;
-  unmasked = l.unmasked;
-  service = ap busy e ∙ busy_step s keeps c.lines i ∙ l.service;
-  room = omega (arith, ap (length {A = Option Row}) e, length-set c.lines i (moved s (at c.lines i)), l.room);
-}
+child_link p c c' k s i keeps e l = let b = busy_step s keeps c.lines i in grind (arith, common_steps)
 
 -- an accepted change of a line of the child, after which the parent differs at k only
 child_accepts : (p p' c c' : Meaning) (k : ℕ) (ch : Change) (i : ℕ) → length p.lines ≤ i → Accepted ch (i - length p.lines) c c' → slice_set p'.lines k None ≡ slice_set p.lines k None → Accepted ch i (cascaded p c k) (cascaded p' c' k)
-child_accepts p p' c c' k ch i h a o = record {
-  allowed = refusal_right p.lines c.lines k ch i h ∙ a.allowed;
-  lines = ap (λ (ls : List (Option Row)). ls ++ c'.lines) o ∙ ap (λ (ls : List (Option Row)). pair_lines k p.lines ls) a.lines ∙ step_right p.lines c.lines k (step_of ch) i h;
-}
+child_accepts p p' c c' k ch i h a o =
+    let r = refusal_right p.lines c.lines k ch i h in
+    let s = step_right p.lines c.lines k (step_of ch) i h in
+    record { allowed = cc; lines = cc }
 
 child_refuses : (p c c' : Meaning) (k : ℕ) (ch : Change) (i : ℕ) (e : CallFault) → length p.lines ≤ i → Refused ch (i - length p.lines) e c c' → Refused ch i e (cascaded p c k) (cascaded p c' k)
 child_refuses p c c' k ch i e h a = record {
@@ -192,7 +186,7 @@ settled p p' c k h (Err e) q l a =
     let b : nat_lt k (length p.lines) ≡ true = lt-ltb k (length p.lines) n in
     let s : at p.lines k ≡ Some l.row = l.slot in
     let y : refusal (Drive h) p.lines k ≡ Some e = a.why in
-    nothing (let z : ◌≡◌ {A = ℕ} 0 1 = cc in z)
+    absurd cc
 settled p p' c k h (Ok x) q l a =
     let n = within p.lines k l.row l.slot in
     let e : p'.lines ≡ slice_set p.lines k (Some (driven h l.row)) = a.lines ∙ ap (λ (y : Option Row). slice_set p.lines k (moved (step_of (Drive h)) y)) l.slot in
@@ -214,7 +208,7 @@ settled p p' c k h (Ok x) q l a =
 
 -- The same of a value that has its wired line as an option, by the side on which the line stands.
 pub at_wired : (p c : Meaning) (o : Option ℕ) (i : ℕ) (ch : Change) → Wired ≡ side_of (length p.lines) o i → Bound p c o → Refused ch i fault.Wired (pair p c o) (pair p c o)
-at_wired p c None i ch e b = nothing (let z : ◌≡◌ {A = ℕ} 0 1 = cc in z)
+at_wired p c None i ch e b = absurd cc
 at_wired p c (Some k) i ch e t =
     let q : i ≡ k = wired_side (length p.lines) k i e in
     let h = within p.lines k t.link.row t.link.slot in
@@ -230,14 +224,14 @@ at_parent p p' c (Some k) ch i r e t a =
     (parent_tied p p' c k ch i r h.1 a t, parent_changes p p' c k ch i r h.0 h.1 a)
 
 pub at_child : (p p' c c' : Meaning) (o : Option ℕ) (k j : ℕ) (ch : Change) (i : ℕ) → Child k j ≡ side_of (length p.lines) o i → Accepted ch j c c' → Settled p p' c' k → Bound p' c' o × Accepted ch i (pair p c o) (pair p' c' o)
-at_child p p' c c' None k j ch i e a s = nothing (let z : ◌≡◌ {A = ℕ} 0 1 = cc in z)
+at_child p p' c c' None k j ch i e a s = absurd cc
 at_child p p' c c' (Some l) k j ch i e a s =
     let h = child_side (length p.lines) l k j i e in
     let a' : Accepted ch (i - length p.lines) c c' = rw h.1 at a in
     rw h.0 (s.tied, child_accepts p p' c c' k ch i h.2 a' s.others)
 
 pub at_child_refused : (p c c' : Meaning) (o : Option ℕ) (k j : ℕ) (ch : Change) (i : ℕ) (f : CallFault) → Child k j ≡ side_of (length p.lines) o i → Bound p c o → Refused ch j f c c' → Bound p c' o × Refused ch i f (pair p c o) (pair p c' o)
-at_child_refused p c c' None k j ch i f e b a = nothing (let z : ◌≡◌ {A = ℕ} 0 1 = cc in z)
+at_child_refused p c c' None k j ch i f e b a = absurd cc
 at_child_refused p c c' (Some l) k j ch i f e t a =
     let h = child_side (length p.lines) l k j i e in
     let a' : Refused ch (i - length p.lines) f c c' = rw h.1 at a in
@@ -245,5 +239,5 @@ at_child_refused p c c' (Some l) k j ch i f e t a =
 
 -- the tie of a line of the child names the wired line
 pub child_tied : (p c : Meaning) (o : Option ℕ) (k j i : ℕ) → Child k j ≡ side_of (length p.lines) o i → Bound p c o → Tied p c k
-child_tied p c None k j i e b = nothing (let z : ◌≡◌ {A = ℕ} 0 1 = cc in z)
+child_tied p c None k j i e b = absurd cc
 child_tied p c (Some l) k j i e t = rw (← (child_side (length p.lines) l k j i e).0) t

@@ -31,6 +31,15 @@ guard (Mask on) r = None
 guard (Sense s) r = cond r.service (Some InService) None
 guard Complete r = cond r.service None (Some NotInService)
 
+-- the answer of a test that finds this fault, or none
+abbrev pub unless : Option CallFault → Result (Unit {0}) CallFault
+unless None = Ok tt
+unless (Some f) = Err f
+
+-- whether an open line of this record takes the change
+abbrev pub allowance : Change → Row → Result (Unit {0}) CallFault
+allowance c r = unless (guard c r)
+
 -- a record that was answered, as a row
 abbrev pub record_seen : Result Line CallFault → Result Row CallFault
 record_seen (Ok l) = Ok (row_of l)

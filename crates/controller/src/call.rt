@@ -1,12 +1,12 @@
 ghost use Rattle.std.specs.Prelude.{◌≡◌};
-ghost use Rattle.controller.specs.Calls.{guard, number_of, step_of};
+ghost use Rattle.controller.specs.Calls.{allowance, number_of, step_of};
 ghost use Rattle.line.specs.Lines.{row_of};
 
 use line::record::Line;
-use line::row::{Sense, Step};
+use line::row::{Row, Sense, Step};
 
 // Why a call on a line is refused, in the order of testing: 25, then 31, then 30 or 32.
-#[derive(Clone, Copy)]
+#[derive(Clone, Copy, PartialEq, Eq, Debug)]
 pub enum CallFault {
     // The line is at or above the width.
     NoLine,
@@ -18,12 +18,12 @@ pub enum CallFault {
     InService,
 }
 
-impl CallFault {
-    // 25, 31, 30 or 32.
-    pub fn number(self) -> u8
-        ensures { result ≡ number_of self }
-    {
-        match self {
+// The number of a refusal: 25, 31, 30 or 32.
+impl From<CallFault> for u8 {
+    ghost from_gives = { λ fault number. number ≡ number_of fault };
+
+    fn from(fault: CallFault) -> u8 {
+        match fault {
             CallFault::NoLine => 25,
             CallFault::Wired => 31,
             CallFault::NotInService => 30,
@@ -33,7 +33,7 @@ impl CallFault {
 }
 
 // What a call does to one line.
-#[derive(Clone, Copy)]
+#[derive(Clone, Copy, PartialEq, Eq, Debug)]
 pub enum Change {
     // Drives it high or low.
     Drive(bool),
@@ -45,40 +45,30 @@ pub enum Change {
     Complete,
 }
 
-impl Change {
-    // The step that it makes of the line.
-    pub fn step(self) -> Step
-        ensures { result ≡ step_of self }
-    {
-        match self {
+// The step that a change makes of the line.
+impl From<Change> for Step {
+    ghost from_gives = { λ change step. step ≡ step_of change };
+
+    fn from(change: Change) -> Step {
+        match change {
             Change::Drive(high) => Step::Drive(high),
             Change::Mask(on) => Step::Mask(on),
             Change::Sense(sense) => Step::Sense(sense),
             Change::Complete => Step::Complete,
         }
     }
+}
 
-    // Why an open line does not take it: a completion needs a line in service, a sense change one that is not.
-    pub fn refusal(self, line: Line) -> Option<CallFault>
-        ensures { result ≡ guard self (row_of line) }
+impl Change {
+    // Whether an open line takes it: a completion needs a line in service, a sense change one that is not.
+    pub fn allowed(self, line: Line) -> Result<(), CallFault>
+        ensures { result ≡ allowance self (row_of line) }
     {
-        let service = line.row().service;
-        match self {
-            Change::Drive(_) | Change::Mask(_) => None,
-            Change::Sense(_) => {
-                if service {
-                    Some(CallFault::InService)
-                } else {
-                    None
-                }
-            }
-            Change::Complete => {
-                if service {
-                    None
-                } else {
-                    Some(CallFault::NotInService)
-                }
-            }
+        let service = Row::from(line).service;
+        match (self, service) {
+            (Change::Sense(_), true) => Err(CallFault::InService),
+            (Change::Complete, false) => Err(CallFault::NotInService),
+            _ => Ok(()),
         }
     }
 }

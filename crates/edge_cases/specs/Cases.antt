@@ -54,7 +54,7 @@ pulsed = raised ++ (answered (Drive 0 false) Done ∷ [])
 
 -- raised, then named by a claim
 abbrev pub served : List Event
-served = raised ++ (answered Claim (Named 0) ∷ [])
+served = raised ++ (answered Claim (Named (Some 0)) ∷ [])
 
 -- in service, completed while high
 abbrev pub completed_high : List Event

@@ -13,6 +13,7 @@ pub fn edge_cases() -> usize
     counted()
 }
 
+// The count, in a function of its own, so that a wrong one is refused here and not in the proof of the cases.
 fn counted() -> usize
     ensures { result ≡ length cases }
 {

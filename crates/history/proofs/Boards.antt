@@ -1,6 +1,7 @@
 -- A clean board, one turn more, and the law of two boards.
 use Rattle.std.proofs.Common.{◌≡◌, ℕ, ◌<◌, true, List, [], ◌∷◌, ◌++◌, sym, refl, ap, ◌∙◌, subst, inl, inr, ⊎_elim, arith}
-use Rattle.std.proofs.lemmas.Bool.{false≢true, eqb-true}
+use Rattle.std.proofs.lemmas.Bool.{false≢true}
+use Rattle.std.proofs.lemmas.Bool.Decides.{nat_tests}
 use Rattle.line.specs.declared.row.Row.{Row}
 use Rattle.line.specs.declared.row.Sense.{Sense}
 use Rattle.line.specs.Rows.{fresh, waits}
@@ -8,7 +9,6 @@ use Rattle.line.specs.Steps.{after}
 use Rattle.history.specs.declared.call.Call.{Call}
 use Rattle.history.specs.declared.call.Call.TheVariants.{Drive, Mask, Claim, Complete}
 use Rattle.history.specs.declared.call.Answer.{Answer}
-use Rattle.history.specs.declared.call.Answer.TheVariants.{Done, Named, NamedNone, Refused}
 use Rattle.history.specs.declared.call.Event.{Event}
 use Rattle.history.specs.Own.{names, is_claim, step_by, at_most_one, own, stands}
 use Rattle.history.specs.Kept.{ClaimsWait}
@@ -52,21 +52,12 @@ pub clean : CleanLaw
 clean n sense row f = record { stand = f; answers = λ p c a q eq. nowhere p c a q eq }
   where
     nowhere : (p : List Event) (c : Call) (a : Answer) (q : List Event) → [] ≡ p ++ (answered c a ∷ q) → Fair n (λ i. stands (sense i) i p) c a
-    nowhere [] c a q eq = let z : ◌≡◌ {A = ℕ} 0 1 = cc in absurd (omega arith)
-    nowhere (e ∷ p) c a q eq = let z : ◌≡◌ {A = ℕ} 0 1 = cc in absurd (omega arith)
+    nowhere [] c a q eq = absurd cc
+    nowhere (e ∷ p) c a q eq = absurd cc
 
 -- a fair claim that names a device finds it waiting
 named_waits : (n : ℕ) (row : ℕ → Row) (i : ℕ) (a : Answer) → ClaimedWell n row a → names i a ≡ true → waits (row i) ≡ true
-named_waits n row i Done w t = absurd (false≢true t)
-named_waits n row i NamedNone w t = absurd (false≢true t)
-named_waits n row i (Refused number) w t = absurd (false≢true t)
-named_waits n row i (Named j) w t =
-    ⊎_elim (λ e. let z : ◌≡◌ {A = ℕ} 0 1 = cc in absurd (omega arith))
-    (λ u.
-    let ij : i ≡ j = eqb-true i j t in
-    let e = u.1 in
-    let same : u.0 ≡ i = cc in
-    sym (ap (λ k. waits (row k)) same) ∙ u.3) w.names
+named_waits n row i a w t = grind (arith, nat_tests)
 
 -- on every board each claim finds the named device waiting
 pub claims_wait : (n : ℕ) (sense : ℕ → Sense) (row : ℕ → Row) (h : List Event) → After n sense row h → (i : ℕ) → ClaimsWait (sense i) i h

@@ -1,5 +1,5 @@
 -- The claims of an edge device that is kept up with, each claim finding it waiting, follow from its changes.
-use Rattle.std.proofs.Common.{◌≡◌, ℕ, ◌+◌, Bool, true, false, not, ◌&&◌, ◌||◌, eqb, List, [], ◌∷◌, ◌++◌, sym, refl, ap, ◌∙◌, zero-add, arith}
+use Rattle.std.proofs.Common.{◌≡◌, ℕ, ◌+◌, Bool, true, false, not, ◌&&◌, ◌||◌, List, [], ◌∷◌, ◌++◌, sym, refl, ap, ◌∙◌, arith}
 use Rattle.std.proofs.lemmas.Bool.{false≢true}
 use Rattle.line.specs.declared.row.Row.{Row}
 use Rattle.line.specs.declared.row.Sense.TheVariants.{Edge}
@@ -8,10 +8,9 @@ use Rattle.line.specs.declared.row.Step.TheVariants.{Drive as Driven, Mask as Ma
 use Rattle.line.specs.Rows.{row, fresh, rests, waits}
 use Rattle.line.specs.Steps.{drive_request, after}
 use Rattle.history.specs.declared.call.Call.{Call}
-use Rattle.history.specs.declared.call.Call.TheVariants.{Drive, Mask, Claim, Complete}
 use Rattle.history.specs.declared.call.Answer.{Answer}
 use Rattle.history.specs.declared.call.Event.{Event}
-use Rattle.history.specs.Own.{accepted, names, is_claim, where_so, step_by, at_most_one, own, changes_in, changes, one, claims}
+use Rattle.history.specs.Own.{is_claim, step_by, at_most_one, own, changes_in, changes, one, claims}
 use Rattle.history.specs.Kept.{KeptUp, ClaimsWait}
 use Rattle.history.specs.Law.{Counted}
 use Rattle.history.proofs.Prefixes.{along, Met, by_steps}
@@ -29,23 +28,12 @@ abbrev claim_steps : List Step → ℕ
 claim_steps [] = 0
 claim_steps (s ∷ ss) = claim_step s + claim_steps ss
 
-no_claim : (b : Bool) (s : Step) (t : List Step) → claim_step s ≡ 0 → claim_steps (at_most_one (where_so b s) ++ t) ≡ claim_steps t
-no_claim true s t e = omega arith
-no_claim false s t e = refl
-
-a_claim : (b : Bool) (t : List Step) → claim_steps (at_most_one (where_so b Claimed) ++ t) ≡ one b + claim_steps t
-a_claim true t = refl
-a_claim false t = sym (zero-add (claim_steps t))
-
 in_call : (i : ℕ) (c : Call) (a : Answer) (t : List Step) → claim_steps (at_most_one (step_by i c a) ++ t) ≡ one (is_claim i c a) + claim_steps t
-in_call i (Drive j high) a t = no_claim (accepted a && eqb i j) (Driven high) t refl ∙ sym (zero-add (claim_steps t))
-in_call i (Mask j on) a t = no_claim (accepted a && eqb i j) (Masked on) t refl ∙ sym (zero-add (claim_steps t))
-in_call i Claim a t = a_claim (names i a) t
-in_call i (Complete j) a t = no_claim (accepted a && eqb i j) Completed t refl ∙ sym (zero-add (claim_steps t))
+in_call i c a t = grind arith
 
 claims_own : (i : ℕ) (h : List Event) → claims i h ≡ claim_steps (own i h)
 claims_own i [] = refl
-claims_own i (e ∷ h) = ap (λ n. one (is_claim i e.call e.answer) + n) (claims_own i h) ∙ sym (in_call i e.call e.answer (own i h))
+claims_own i (e ∷ h) = let rest = claims_own i h in let first = in_call i e.call e.answer (own i h) in omega arith
 
 abbrev Rests : Row → Type 0
 Rests r = rests r ≡ true
@@ -68,28 +56,16 @@ owed l q m (Completed ∷ cs) = due q m
 owed l q m (Reset ∷ cs) = due q m
 
 rests_due : (q v m : Bool) → (m || (not q && not v)) ≡ true → due q m ≡ 0
-rests_due true v true t = refl
-rests_due false v true t = refl
-rests_due true v false t = absurd (false≢true t)
-rests_due false v false t = refl
+rests_due q v m t = grind arith
 
 rests_keeps : (q v m : Bool) → (m || (not q && not v)) ≡ true → q ≡ (q && m)
-rests_keeps true v true t = refl
-rests_keeps false v true t = refl
-rests_keeps true v false t = absurd (false≢true t)
-rests_keeps false v false t = refl
+rests_keeps q v m t = grind arith
 
 rests_idle : (q v m : Bool) → (m || (not q && not v)) ≡ true → (m ≡ true → v ≡ false) → v ≡ false
-rests_idle q v true t k = k refl
-rests_idle true v false t k = absurd (false≢true t)
-rests_idle false true false t k = absurd (false≢true t)
-rests_idle false false false t k = refl
+rests_idle q v m t k = grind arith
 
 edge_drive : (l high v q : Bool) → drive_request Edge l high v q ≡ drive_request Edge l high false q
-edge_drive false false v q = refl
-edge_drive false true v q = refl
-edge_drive true false v q = refl
-edge_drive true true v q = refl
+edge_drive l high v q = grind arith
 
 owed_one : (l : Bool) (cs : List Step) → owed l true false cs ≡ 1 + owed l false false cs
 owed_one l [] = refl

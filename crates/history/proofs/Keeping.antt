@@ -1,6 +1,6 @@
 -- The test keeps_up says exactly whether a device was kept up with.
-use Rattle.std.proofs.Common.{◌≡◌, ℕ, Bool, true, false, cond, List, [], ◌∷◌, ◌++◌, sym, refl, ap, ◌∙◌, arith}
-use Rattle.std.proofs.lemmas.Bool.{false≢true, and_parts, and_from}
+use Rattle.std.proofs.Common.{◌≡◌, ℕ, Bool, true, cond, List, [], ◌∷◌, ◌++◌, sym, ap, ◌∙◌, arith}
+use Rattle.std.proofs.lemmas.Bool.{and_parts, and_from}
 use Rattle.search.specs.Exactly.{Exactly}
 use Rattle.line.specs.declared.row.Row.{Row}
 use Rattle.line.specs.declared.row.Sense.{Sense}
@@ -12,19 +12,17 @@ use Rattle.history.specs.Kept.{KeptUp, keeps_from, keeps_up}
 use Rattle.history.proofs.Prefixes.{after_++, Along, along}
 
 chosen : (a b : Bool) → cond a b true ≡ true → a ≡ true → b ≡ true
-chosen true b t u = t
-chosen false b t u = absurd (false≢true u)
+chosen a b t u = grind arith
 
 choose : (a b : Bool) → (a ≡ true → b ≡ true) → cond a b true ≡ true
-choose true b f = f refl
-choose false b f = refl
+choose a b f = grind arith
 
 -- where F holds of an event, Q holds of the record just before it
 module _ (i : ℕ) (F : Event → Bool) (Q : Row → Bool) where
   pub befores : (r : Row) (h : List Event) → Along (λ x e. F e ≡ true → Q x ≡ true) i r h → (p : List Event) (e : Event) (q : List Event)
       → h ≡ p ++ (e ∷ q) → F e ≡ true → Q (after r (own i p)) ≡ true
-  befores r [] t [] e q eq c = let z : ◌≡◌ {A = ℕ} 0 1 = cc in absurd (omega arith)
-  befores r [] t (x ∷ p) e q eq c = let z : ◌≡◌ {A = ℕ} 0 1 = cc in absurd (omega arith)
+  befores r [] t [] e q eq c = absurd cc
+  befores r [] t (x ∷ p) e q eq c = absurd cc
   befores r (y ∷ h) t [] e q eq c = let same : e ≡ y = cc in t.0 (ap F (sym same) ∙ c)
   befores r (y ∷ h) t (x ∷ p) e q eq c =
       let same : y ≡ x = cc in

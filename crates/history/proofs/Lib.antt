@@ -1,5 +1,5 @@
 pub mod Prefixes
-pub mod Loops
 pub mod Keeping
 pub mod Counting
 pub mod Boards
+pub mod Ticks

@@ -1,5 +1,6 @@
 -- The prefixes of a list of events, and what the own steps of a device make of them.
-use Rattle.std.proofs.Common.{◌≡◌, ℕ, Bool, true, false, ◌&&◌, eqb, ◌⊎◌, List, [], ◌∷◌, ◌++◌, sym, refl, ap, ◌∙◌, subst, inl, inr, ⊎_elim, append_assoc, append-nil, arith}
+use Rattle.std.proofs.Common.{◌≡◌, ℕ, Bool, true, false, ◌&&◌, eqb, ◌⊎◌, List, [], ◌∷◌, ◌++◌, sym, refl, ap, ◌∙◌, subst, inl, inr, ⊎_elim, append_assoc, arith}
+use Rattle.std.proofs.lemmas.Grind.{common_steps}
 use Rattle.line.specs.declared.row.Row.{Row}
 use Rattle.line.specs.declared.row.Sense.{Sense}
 use Rattle.line.specs.declared.row.Step.{Step}
@@ -22,17 +23,15 @@ own_++ i (e ∷ h) k =
 
 -- one event more
 pub after_own : (r : Row) (i : ℕ) (h : List Event) (e : Event) → after r (own i (h ++ (e ∷ []))) ≡ after (after r (own i h)) (at_most_one (step_of i e))
-after_own r i h e =
-    ap (after r) (own_++ i h (e ∷ []) ∙ ap (λ t. own i h ++ t) (append-nil (at_most_one (step_of i e))))
-    ∙ after_++ r (own i h) (at_most_one (step_of i e))
+after_own r i h e = grind (arith, common_steps, own_++, after_++)
 
 module _ {X : Type 0} where
   -- with one element more, a place is the last one, or one of the others
   pub last_split : (h : List X) (e : X) (p : List X) (c : X) (q : List X) → h ++ (e ∷ []) ≡ p ++ (c ∷ q)
       → ((p ≡ h) × (c ≡ e)) ⊎ ((r : List X) × (h ≡ p ++ (c ∷ r)))
   last_split [] e [] c q eq = inl (refl, cc)
-  last_split [] e (y ∷ []) c q eq = let z : (c ∷ q) ≡ [] = cc in let w : ◌≡◌ {A = ℕ} 0 1 = cc in absurd (omega arith)
-  last_split [] e (y ∷ (z ∷ p)) c q eq = let v : (z ∷ (p ++ (c ∷ q))) ≡ [] = cc in let w : ◌≡◌ {A = ℕ} 0 1 = cc in absurd (omega arith)
+  last_split [] e (y ∷ []) c q eq = absurd cc
+  last_split [] e (y ∷ (z ∷ p)) c q eq = absurd cc
   last_split (x ∷ h) e [] c q eq = let k : x ≡ c = cc in inr (h, cc)
   last_split (x ∷ h) e (y ∷ p) c q eq =
       let k : x ≡ y = cc in

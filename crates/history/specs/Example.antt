@@ -1,5 +1,5 @@
 -- A history over which device 0, of sense edge, ticks twice and is kept up with.
-use Rattle.std.specs.Prelude.{◌≡◌, true, false, List, [], ◌∷◌}
+use Rattle.std.specs.Prelude.{◌≡◌, true, false, List, [], ◌∷◌, Some}
 use Rattle.line.specs.declared.row.Sense.TheVariants.{Edge}
 use Rattle.history.specs.declared.call.Call.TheVariants.{Drive, Mask, Claim, Complete}
 use Rattle.history.specs.declared.call.Answer.TheVariants.{Done, Named}
@@ -12,8 +12,8 @@ use Rattle.history.specs.Law.{answered}
 abbrev pub two_ticks : List Event
 two_ticks =
     answered (Mask 0 false) Done
-    ∷ answered (Drive 0 true) Done ∷ answered Claim (Named 0) ∷ answered (Complete 0) Done ∷ answered (Drive 0 false) Done
-    ∷ answered (Drive 0 true) Done ∷ answered Claim (Named 0) ∷ answered (Complete 0) Done ∷ answered (Drive 0 false) Done
+    ∷ answered (Drive 0 true) Done ∷ answered Claim (Named (Some 0)) ∷ answered (Complete 0) Done ∷ answered (Drive 0 false) Done
+    ∷ answered (Drive 0 true) Done ∷ answered Claim (Named (Some 0)) ∷ answered (Complete 0) Done ∷ answered (Drive 0 false) Done
     ∷ []
 
 -- device 0 of sense edge meets every premise of the law, and is claimed twice

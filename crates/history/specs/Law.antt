@@ -1,5 +1,5 @@
 -- The law of two boards, said of the records of their devices and of their histories.
-use Rattle.std.specs.Prelude.{◌≡◌, ℕ, ◌<◌, ◌≤◌, true, false, ◌⊎◌, List, [], ◌∷◌, ◌++◌}
+use Rattle.std.specs.Prelude.{◌≡◌, ℕ, ◌<◌, ◌≤◌, true, false, ◌⊎◌, List, [], ◌∷◌, ◌++◌, Some, None}
 use Rattle.search.specs.Exactly.{Exactly}
 use Rattle.line.specs.declared.row.Row.{Row}
 use Rattle.line.specs.declared.row.Sense.{Sense}
@@ -9,7 +9,7 @@ use Rattle.line.specs.Steps.{after}
 use Rattle.history.specs.declared.call.Call.{Call}
 use Rattle.history.specs.declared.call.Call.TheVariants.{Drive, Mask, Claim, Complete}
 use Rattle.history.specs.declared.call.Answer.{Answer}
-use Rattle.history.specs.declared.call.Answer.TheVariants.{Done, Named, NamedNone, Refused}
+use Rattle.history.specs.declared.call.Answer.TheVariants.{Done, Named, Refused}
 use Rattle.history.specs.declared.call.Event.{Event}
 use Rattle.history.specs.Own.{own, stands, changes, claims, step_by, at_most_one}
 use Rattle.history.specs.Kept.{KeptUp, ClaimsWait}
@@ -28,8 +28,8 @@ NoneWaits n row = (i : ℕ) → i < n → waits (row i) ≡ false
 
 -- a claim names none or a device that waits; with no device in service it names none exactly if no device waits
 pub record ClaimedWell (n : ℕ) (row : ℕ → Row) (a : Answer) : Type 0 where
-  pub names : (a ≡ NamedNone) ⊎ ((i : ℕ) × (a ≡ Named i) × (i < n) × (waits (row i) ≡ true))
-  pub idle : NoneInService n row → Exactly (a ≡ NamedNone) (NoneWaits n row)
+  pub names : (a ≡ Named None) ⊎ ((i : ℕ) × (a ≡ Named (Some i)) × (i < n) × (waits (row i) ≡ true))
+  pub idle : NoneInService n row → Exactly (a ≡ Named None) (NoneWaits n row)
 
 -- what a call may be answered, the n devices standing so just before it
 abbrev pub Fair : ℕ → (ℕ → Row) → Call → Answer → Type 0

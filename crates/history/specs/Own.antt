@@ -9,21 +9,20 @@ use Rattle.line.specs.Steps.{after}
 use Rattle.history.specs.declared.call.Call.{Call}
 use Rattle.history.specs.declared.call.Call.TheVariants.{Drive, Mask, Claim, Complete}
 use Rattle.history.specs.declared.call.Answer.{Answer}
-use Rattle.history.specs.declared.call.Answer.TheVariants.{Done, Named, NamedNone, Refused}
+use Rattle.history.specs.declared.call.Answer.TheVariants.{Done, Named, Refused}
 use Rattle.history.specs.declared.call.Event.{Event}
 
 -- a call is accepted if its answer is not a refusal
 abbrev pub accepted : Answer → Bool
 accepted Done = true
-accepted (Named j) = true
-accepted NamedNone = true
+accepted (Named o) = true
 accepted (Refused number) = false
 
 -- the answer names device i
 abbrev pub names : ℕ → Answer → Bool
 names i Done = false
-names i (Named j) = i == j
-names i NamedNone = false
+names i (Named None) = false
+names i (Named (Some j)) = i == j
 names i (Refused number) = false
 
 -- an accepted drive or mask change of device i

@@ -1,5 +1,5 @@
 // A call of a board; devices are named by route number.
-#[derive(Clone, Copy)]
+#[derive(Clone, Copy, PartialEq, Eq, Debug)]
 pub enum Call {
     // Drives a device high (true) or low.
     Drive(usize, bool),
@@ -12,19 +12,17 @@ pub enum Call {
 }
 
 // What a call was answered.
-#[derive(Clone, Copy)]
+#[derive(Clone, Copy, PartialEq, Eq, Debug)]
 pub enum Answer {
     Done,
-    // A claim named this device.
-    Named(usize),
-    // A claim named no device.
-    NamedNone,
-    // The call was refused, with its number.
+    // A claim named this device, or none.
+    Named(Option<usize>),
+    // The call was refused, with its number. Any number: an enum of them would take fewer lists than a history may be.
     Refused(u8),
 }
 
 // A call with its answer.
-#[derive(Clone, Copy)]
+#[derive(Clone, Copy, PartialEq, Eq, Debug)]
 pub struct Event {
     pub call: Call,
     pub answer: Answer,

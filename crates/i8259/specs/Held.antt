@@ -10,8 +10,7 @@ use Rattle.controller.specs.Meaning.{Lawful, at}
 use Rattle.table.specs.declared.rows.Table.{Table}
 use Rattle.table.specs.Tables.{table_lines}
 use Rattle.table.specs.Kinds.{OfferedBy, meaning_by, ready, serving}
-use Rattle.table.proofs.Reading.{nothing}
-use Rattle.table.proofs.Orders.{lawful_by, offered_by, ready_waits, serves_serving, serving_serves, there, waits_ready}
+use Rattle.table.specs.Orders.{lawful_by, nothing, offered_by, ready_waits, serves_serving, serving_serves, there, waits_ready}
 use Rattle.i8259.specs.Offers.{LowestUnserved, held, i8259_offer, if_waiting}
 
 -- an offered line is the first that is held, and waits
@@ -71,7 +70,13 @@ idle_first ls (Some j) f idle i w =
     ap (λ (b : Bool). is_some (cond b (Some j) None))
     (⊎_elim (λ (y : ready (at ls j) ≡ true). y) (λ (n : ready (at ls j) ≡ false). absurd (both_ways (held (at ls j)) (or_from (ready (at ls j)) (serving (at ls j)) n s) p)) (cases_Bool (ready (at ls j))))
 
+pub i8259_waiting : (ls : List (Option Row)) (i : ℕ) → i8259_offer ls ≡ Some i → ready (at ls i) ≡ true
+i8259_waiting ls i e = (waiting_of ls (first held ls) i e).1
+
+pub i8259_eager : (ls : List (Option Row)) → ((k : ℕ) → serving (at ls k) ≡ false) → (i : ℕ) → ready (at ls i) ≡ true → is_some (i8259_offer ls) ≡ true
+i8259_eager ls idle i w = idle_first ls (first held ls) (first_fit held ls) idle i w
+
 pub i8259_lawful : (t : Table) → Lawful (meaning_by i8259_offer (table_lines t))
 i8259_lawful t =
     let ls = table_lines t in
-    lawful_by i8259_offer t (λ i e. (waiting_of ls (first held ls) i e).1) (λ idle i w. idle_first ls (first held ls) (first_fit held ls) idle i w)
+    lawful_by i8259_offer t (i8259_waiting ls) (i8259_eager ls)

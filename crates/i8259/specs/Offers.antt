@@ -1,19 +1,16 @@
 -- What an 8259A offers.
-use Rattle.std.specs.Prelude.{ℕ, ◌<◌, Bool, cond, ◌||◌, List, drop, Some, None, Option}
-use Rattle.search.specs.First.{first, first_from}
+use Rattle.std.specs.Prelude.{ℕ, ◌<◌, Bool, cond, ◌||◌, List, Some, None, Option}
+use Rattle.search.specs.First.{first}
 use Rattle.line.specs.declared.row.Row.{Row}
 use Rattle.controller.specs.Meaning.{Meaning, Serves, Waits, at}
 use Rattle.table.specs.Tables.{table_lines}
 use Rattle.table.specs.Kinds.{meaning_by, ready, serving}
-use Rattle.i8259.specs.declared.chip.I8259.{I8259}
+use Rattle.table.specs.declared.over.OverTable.{OverTable}
+use Rattle.i8259.specs.declared.chip.FullyNested.{FullyNested}
 
 -- a line that waits or is in service
 abbrev pub held : Option Row → Bool
 held x = ready x || serving x
-
--- the lowest-numbered of those from n on
-abbrev pub held_from : ℕ → List (Option Row) → Option ℕ
-held_from n ls = first_from held n (drop n ls)
 
 -- the line, if it waits
 abbrev pub if_waiting : List (Option Row) → Option ℕ → Option ℕ
@@ -24,7 +21,7 @@ if_waiting ls (Some i) = cond (ready (at ls i)) (Some i) None
 abbrev pub i8259_offer : List (Option Row) → Option ℕ
 i8259_offer ls = if_waiting ls (first held ls)
 
-abbrev pub i8259_meaning : I8259 → Meaning
+abbrev pub i8259_meaning : OverTable FullyNested → Meaning
 i8259_meaning x = meaning_by i8259_offer (table_lines x.table)
 
 -- line i waits, no line below it waits, and no line below it is in service

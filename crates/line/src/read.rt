@@ -5,12 +5,12 @@ ghost use Rattle.line.specs.Lines.{row_of};
 use crate::record::Line;
 use crate::row::{Row, Sense};
 
-impl Line {
-    // The line of a row, whatever the row: a following line's request is its level, a gated line in service is not
-    // requested, and everything else is the row's.
-    pub fn of(row: Row) -> Line
-        ensures { row_of result ≡ made row }
-    {
+// The line of a row, whatever the row: a following line's request is its level, a gated line in service is not
+// requested, and everything else is the row's.
+impl From<Row> for Line {
+    ghost from_gives = { λ row line. row_of line ≡ made row };
+
+    fn from(row: Row) -> Line {
         let request = match row.sense {
             Sense::Edge => row.request,
             Sense::Following => row.level,
@@ -24,7 +24,24 @@ impl Line {
             mask: row.mask,
         }
     }
+}
 
+// The record as plain data, which is a row of a record that can exist.
+impl From<Line> for Row {
+    ghost from_gives = { λ line row. (row ≡ row_of line) × Legal row };
+
+    fn from(line: Line) -> Row {
+        Row {
+            sense: line.sense,
+            level: line.level,
+            request: line.request,
+            service: line.service,
+            mask: line.mask,
+        }
+    }
+}
+
+impl Line {
     // A line of this sense as a reset leaves it.
     pub fn fresh(sense: Sense) -> Line
         ensures { row_of result ≡ fresh sense }
@@ -35,20 +52,6 @@ impl Line {
             request: false,
             service: false,
             mask: true,
-        }
-    }
-
-    // The record as plain data.
-    pub fn row(self) -> Row
-        ensures is { result ≡ row_of self }
-        ensures legal { Legal result }
-    {
-        Row {
-            sense: self.sense,
-            level: self.level,
-            request: self.request,
-            service: self.service,
-            mask: self.mask,
         }
     }
 

@@ -4,7 +4,7 @@ ghost use Rattle.line.specs.declared.row.Sense.TheVariants.{Following, Gated};
 use crate::row::Sense;
 
 // The record of one line. A following line's request is its level, and a gated line in service is not requested.
-#[derive(Clone, Copy)]
+#[derive(Clone, Copy, PartialEq, Eq, Debug)]
 pub struct Line {
     pub(crate) sense: Sense,
     pub(crate) level: bool,

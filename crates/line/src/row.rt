@@ -1,5 +1,5 @@
 // How the level of a line makes requests.
-#[derive(Clone, Copy)]
+#[derive(Clone, Copy, PartialEq, Eq, Debug)]
 pub enum Sense {
     // A rise makes a request, which stays until a claim.
     Edge,
@@ -10,7 +10,7 @@ pub enum Sense {
 }
 
 // A line as plain data, without the rule about which records can exist.
-#[derive(Clone, Copy)]
+#[derive(Clone, Copy, PartialEq, Eq, Debug)]
 pub struct Row {
     pub sense: Sense,
     // What the device drives; true is high.
@@ -24,7 +24,7 @@ pub struct Row {
 }
 
 // What happens to one line.
-#[derive(Clone, Copy)]
+#[derive(Clone, Copy, PartialEq, Eq, Debug)]
 pub enum Step {
     // It is driven to a level.
     Drive(bool),

@@ -5,6 +5,7 @@ ghost use Rattle.line.specs.Lines.{row_of};
 use crate::record::Line;
 use crate::row::{Sense, Step};
 
+// Each step writes the new line whole, every field of it: a struct that carries a rule takes no `..self`.
 impl Line {
     // Low to high sets the request, of a gated line unless it is in service; high to low clears it of a following line
     // only. Driving a line to the level that it has changes nothing.
@@ -13,14 +14,12 @@ impl Line {
     {
         let request = match (self.level, high) {
             (false, true) => match self.sense {
-                Sense::Edge => true,
-                Sense::Following => true,
+                Sense::Edge | Sense::Following => true,
                 Sense::Gated => self.request || !self.service,
             },
             (true, false) => match self.sense {
-                Sense::Edge => self.request,
+                Sense::Edge | Sense::Gated => self.request,
                 Sense::Following => false,
-                Sense::Gated => self.request,
             },
             _ => self.request,
         };
@@ -64,9 +63,8 @@ impl Line {
         ensures { row_of result ≡ claimed (row_of self) }
     {
         let request = match self.sense {
-            Sense::Edge => false,
+            Sense::Edge | Sense::Gated => false,
             Sense::Following => self.request,
-            Sense::Gated => false,
         };
         Line {
             sense: self.sense,
@@ -82,8 +80,7 @@ impl Line {
         ensures { row_of result ≡ completed (row_of self) }
     {
         let request = match self.sense {
-            Sense::Edge => self.request,
-            Sense::Following => self.request,
+            Sense::Edge | Sense::Following => self.request,
             Sense::Gated => self.request || self.level,
         };
         Line {
@@ -102,7 +99,7 @@ impl Line {
         Line::fresh(self.sense)
     }
 
-    // The line after one step.
+    // The line after one step. A match, since a step is data: a history has a list of them.
     pub fn step(self, step: Step) -> Line
         ensures { row_of result ≡ stepped step (row_of self) }
     {

@@ -1,5 +1,5 @@
 -- The PLIC's order: as a relation, and that it keeps the laws.
-use Rattle.std.specs.Prelude.{◌≡◌, ℕ, suc, ◌+◌, ◌-◌, ◌<◌, ◌≤◌, Bool, true, false, cond, ◌⊎◌, List, [], ◌∷◌, length, Some, None, Option, MatchOption, ◌≢◌, nat_lt, slice_index_or, refl}
+use Rattle.std.specs.Prelude.{◌≡◌, ℕ, suc, ◌+◌, ◌-◌, ◌<◌, ◌≤◌, Bool, true, false, cond, ◌⊎◌, List, [], ◌∷◌, length, is_some, Some, None, Option, MatchOption, ◌≢◌, nat_lt, slice_index_or, refl}
 use Rattle.std.proofs.Common.{sym, ap, ◌∙◌, inl, inr, ⊎_elim, zero-add, add-zero, arith}
 use Rattle.std.proofs.lemmas.List.{at_drop_all, at_drop_more, get_or_past}
 use Rattle.std.proofs.lemmas.Bool.{cases_eq, cases_lt, both_ways, ltb-true, ltb-false, some_since}
@@ -8,14 +8,13 @@ use Rattle.search.specs.Exactly.{Exactly}
 use Rattle.controller.specs.Meaning.{Lawful, at}
 use Rattle.table.specs.declared.rows.Table.{Table}
 use Rattle.table.specs.Tables.{table_lines}
-use Rattle.table.specs.Kinds.{OfferedBy, meaning_by, ready}
-use Rattle.table.proofs.Reading.{nothing}
-use Rattle.table.proofs.Orders.{lawful_by, offered_by, ready_waits, waits_ready}
+use Rattle.table.specs.Kinds.{OfferedBy, meaning_by, ready, serving}
+use Rattle.table.specs.Orders.{lawful_by, nothing, offered_by, ready_waits, waits_ready}
 use Rattle.plic.specs.Offers.{Foremost, plic_offer, preferred, top, top_from}
 
 module _ (level : ℕ → ℕ) where
   -- one line down in the search
-  top_step : (ls : List (Option Row)) (i : ℕ) → top_from level i ls ≡ preferred level i (ready (at ls i)) (top_from level (i + 1) ls)
+  pub top_step : (ls : List (Option Row)) (i : ℕ) → top_from level i ls ≡ preferred level i (ready (at ls i)) (top_from level (i + 1) ls)
   top_step ls i =
       ⊎_elim
       (λ (h : i < length ls). at_drop_more (top level i) ls i None h)
@@ -157,9 +156,14 @@ module _ (level : ℕ → ℕ) where
     pub plic_exactly : OfferedBy (Foremost level ls) (plic_offer level ls)
     plic_exactly = offered_by (Foremost level ls) (plic_offer level ls) (both (plic_offer level ls) plic_best)
 
+  pub plic_waiting : (ls : List (Option Row)) (i : ℕ) → plic_offer level ls ≡ Some i → ready (at ls i) ≡ true
+  plic_waiting ls i e = let w = (((plic_exactly ls).line i).only e).waiting in waits_ready (at ls i) w.0 w.1 w.2
+
+  pub plic_eager : (ls : List (Option Row)) → ((k : ℕ) → serving (at ls k) ≡ false) → (i : ℕ) → ready (at ls i) ≡ true → is_some (plic_offer level ls) ≡ true
+  plic_eager ls idle i w =
+      some_since (plic_offer level ls) (Nobody (at ls) 0) (Best (at ls) 0) (plic_best ls) (λ n. both_ways (ready (at ls i)) (n i (omega arith)) w)
+
   pub plic_lawful : (t : Table) → Lawful (meaning_by (plic_offer level) (table_lines t))
   plic_lawful t =
       let ls = table_lines t in
-      lawful_by (plic_offer level) t
-      (λ i e. let w = (((plic_exactly ls).line i).only e).waiting in waits_ready (at ls i) w.0 w.1 w.2)
-      (λ idle i w. some_since (plic_offer level ls) (Nobody (at ls) 0) (Best (at ls) 0) (plic_best ls) (λ n. both_ways (ready (at ls i)) (n i (omega arith)) w))
+      lawful_by (plic_offer level) t (plic_waiting ls) (plic_eager ls)

@@ -1,19 +1,26 @@
 -- What a PLIC offers.
-use Rattle.std.specs.Prelude.{◌≡◌, ℕ, ◌+◌, ◌<◌, Bool, true, false, cond, ◌⊎◌, List, [], ◌∷◌, map, drop, Some, None, Option, ◌≢◌, nat_lt, slice_index, slice_index_or}
+use Rattle.std.specs.Prelude.{◌≡◌, ℕ, ◌+◌, ◌<◌, Bool, true, false, cond, ◌⊎◌, List, [], ◌∷◌, map, drop, replicate, Some, None, Option, ◌≢◌, nat_lt, slice_index, slice_index_or}
 use Rattle.line.specs.declared.row.Row.{Row}
+use Rattle.line.specs.declared.row.Sense.TheVariants.{Gated}
+use Rattle.line.specs.Rows.{fresh}
 use Rattle.controller.specs.Meaning.{Meaning, Waits}
 use Rattle.table.specs.Tables.{table_lines}
 use Rattle.table.specs.Kinds.{meaning_by, ready}
-use Rattle.plic.specs.declared.priority.Priority.{Priority}
-use Rattle.plic.specs.declared.chip.Plic.{Plic}
+use Rattle.table.specs.declared.one_to.OneTo.{OneTo}
+use Rattle.table.specs.declared.over.OverTable.{OverTable}
+use Rattle.plic.specs.declared.chip.ByPriority.{ByPriority}
+
+-- the lines of a new PLIC, of a width from 1 to 64
+abbrev pub new_lines : OneTo 64 → List (Option Row)
+new_lines w = replicate w.number (Some (fresh Gated))
 
 -- the priority of line i
-abbrev pub level_of : Plic → ℕ → ℕ
-level_of x i = slice_index x.levels i
+abbrev pub level_of : ByPriority → ℕ → ℕ
+level_of x i = slice_index (map (λ p. p.number) x.levels) i
 
 -- the priority of line i that a list gives: the one at i, or 1 past its end
-abbrev pub given_level : List Priority → ℕ → ℕ
-given_level ps i = slice_index_or (map (λ p. p.level) ps) i 1
+abbrev pub given_level : List (OneTo 7) → ℕ → ℕ
+given_level ps i = slice_index_or (map (λ p. p.number) ps) i 1
 
 -- line n, which waits or not, or the best line above it
 abbrev pub preferred : (ℕ → ℕ) → ℕ → Bool → Option ℕ → Option ℕ
@@ -34,8 +41,8 @@ top_from level n ls = top level n (drop n ls)
 abbrev pub plic_offer : (ℕ → ℕ) → List (Option Row) → Option ℕ
 plic_offer level ls = top level 0 ls
 
-abbrev pub plic_meaning : Plic → Meaning
-plic_meaning x = meaning_by (plic_offer (level_of x)) (table_lines x.table)
+abbrev pub plic_meaning : OverTable ByPriority → Meaning
+plic_meaning x = meaning_by (plic_offer (level_of x.order)) (table_lines x.table)
 
 -- line i waits, and every other waiting line has a smaller priority, or the same one and a higher number
 pub record Foremost (level : ℕ → ℕ) (ls : List (Option Row)) (i : ℕ) : Type 0 where

@@ -1,9 +1,4 @@
-ghost use Rattle.std.specs.Prelude.{◌≤◌};
+use table::one_to::OneTo;
 
 // How many lines a PLIC has: 1 to 64.
-#[derive(Clone, Copy)]
-pub struct PlicWidth {
-    pub(crate) lines: usize,
-    ghost least: { 1 ≤ lines },
-    ghost most: { lines ≤ 64 },
-}
+pub type PlicWidth = OneTo<64>;

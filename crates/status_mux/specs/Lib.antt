@@ -1,3 +1,2 @@
-pub mod Widths
 pub mod Offers
 pub mod Lowest

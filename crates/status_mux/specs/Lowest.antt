@@ -9,8 +9,8 @@ use Rattle.search.proofs.Firsts.{first_fit}
 use Rattle.controller.specs.Meaning.{Lawful, at}
 use Rattle.table.specs.declared.rows.Table.{Table}
 use Rattle.table.specs.Tables.{table_lines}
-use Rattle.table.specs.Kinds.{OfferedBy, meaning_by, ready}
-use Rattle.table.proofs.Orders.{lawful_by, offered_by, ready_waits, there, waits_ready}
+use Rattle.table.specs.Kinds.{OfferedBy, meaning_by, ready, serving}
+use Rattle.table.specs.Orders.{lawful_by, offered_by, ready_waits, there, waits_ready}
 use Rattle.status_mux.specs.Offers.{LowestWaiting, mux_offer}
 
 lowest_first : (ls : List (Option Row)) (i : ℕ) → LowestWaiting ls i → FirstAt ready ls i
@@ -42,12 +42,16 @@ some_or_none : (o : Option ℕ) → (is_some o ≡ true) ⊎ (o ≡ None)
 some_or_none None = inr refl
 some_or_none (Some i) = inl refl
 
+pub mux_waiting : (ls : List (Option Row)) (i : ℕ) → mux_offer ls ≡ Some i → ready (at ls i) ≡ true
+mux_waiting ls i e = (((first_fit ready ls).found i).only e).passes None
+
+pub mux_eager : (ls : List (Option Row)) → ((k : ℕ) → serving (at ls k) ≡ false) → (i : ℕ) → ready (at ls i) ≡ true → is_some (mux_offer ls) ≡ true
+mux_eager ls idle i w =
+    ⊎_elim (λ (y : is_some (mux_offer ls) ≡ true). y)
+    (λ (n : mux_offer ls ≡ None). absurd (both_ways (ready (at ls i)) ((first_fit ready ls).none.only n i None (there ready refl ls i w)) w))
+    (some_or_none (mux_offer ls))
+
 pub mux_lawful : (t : Table) → Lawful (meaning_by mux_offer (table_lines t))
 mux_lawful t =
     let ls = table_lines t in
-    let f = first_fit ready ls in
-    lawful_by mux_offer t (λ i e. ((f.found i).only e).passes None)
-    (λ idle i w.
-    ⊎_elim (λ (y : is_some (mux_offer ls) ≡ true). y)
-    (λ (n : mux_offer ls ≡ None). absurd (both_ways (ready (at ls i)) (f.none.only n i None (there ready refl ls i w)) w))
-    (some_or_none (mux_offer ls)))
+    lawful_by mux_offer t (mux_waiting ls) (mux_eager ls)

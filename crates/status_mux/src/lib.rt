@@ -4,4 +4,3 @@
 
 pub mod mux;
 pub mod mux_width;
-pub mod widths;

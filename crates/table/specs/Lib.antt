@@ -1,2 +1,4 @@
 pub mod Tables
 pub mod Kinds
+pub mod Ranges
+pub mod Orders

@@ -1,6 +1,7 @@
-use Rattle.std.proofs.Common.{◌≡◌}
-use Rattle.table.specs.Tables.{TableSound, reset_to, table_lines}
+use Rattle.std.proofs.Common.{◌≡◌, map, take, drop, ◌++◌}
+use Rattle.line.specs.Steps.{reset}
 use Rattle.table.proofs.rows.Table.reset.Given as goal
 
-abbrev pub invariant-loop-i : goal.invariant-loop-i
-invariant-loop-i l = TableSound l.self × (table_lines l.self ≡ reset_to l.i (table_lines l.initial.self))
+abbrev pub invariant-loop-row : goal.invariant-loop-row
+invariant-loop-row l =
+    l.row-items ≡ map reset (take l.row-index l.initial.row-items) ++ drop l.row-index l.initial.row-items
