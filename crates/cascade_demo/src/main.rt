@@ -3,10 +3,10 @@
 #![tactic(auto)]
 
 use cascade::pair::Cascade;
-use i8259::chip::I8259;
-use plic::chip::Plic;
+use i8259::chip::FullyNested;
+use plic::chip::{ByPriority, Plic};
 use plic::plic_width::PlicWidth;
-use status_mux::mux::StatusMux;
+use status_mux::mux::{LowestFirst, StatusMux};
 use status_mux::mux_width::MuxWidth;
 use std::io;
 
@@ -15,25 +15,30 @@ mod words;
 
 use steps::{refused_steps, served_steps};
 
-// The PLIC with 64 lines, each of priority 1 since no list gives another, and the status mux with 4 lines; none only if a
-// width were out of range.
-fn parts() -> Option<(Plic, StatusMux)> {
-    let plic_width = PlicWidth::new(64)?;
-    let mux_width = MuxWidth::new(4)?;
-    Some((Plic::new(plic_width, &[]), StatusMux::new(mux_width)))
+// The PLIC with 64 lines, each of priority 1 since no list gives another, and the status mux with 4 lines; an error only if
+// a width were out of range.
+fn parts() -> io::Result<(Plic, StatusMux)> {
+    let plic_width = PlicWidth::new(64).ok_or(io::ErrorKind::InvalidInput)?;
+    let mux_width = MuxWidth::new(4).ok_or(io::ErrorKind::InvalidInput)?;
+    Ok((
+        ByPriority::controller(plic_width, &[]),
+        LowestFirst::controller(mux_width),
+    ))
 }
 
-fn mux_first(rt: &HostRuntime, plic: Plic, mux: StatusMux) -> io::Result<()> {
+fn mux_first(rt: &HostRuntime) -> io::Result<()> {
     println!(rt; "\nThe mux is cascaded into the PLIC, and that pair into the 8259A:")?;
+    let (plic, mux) = parts()?;
     let pair = Cascade::new(plic, mux, 10);
-    let mut controller = Cascade::new(I8259::new(), pair, 2);
+    let mut controller = Cascade::new(FullyNested::controller(), pair, 2);
     served_steps(rt, &mut controller)?;
     refused_steps(rt, &mut controller)
 }
 
-fn plic_first(rt: &HostRuntime, plic: Plic, mux: StatusMux) -> io::Result<()> {
+fn plic_first(rt: &HostRuntime) -> io::Result<()> {
     println!(rt; "\nThe PLIC is cascaded into the 8259A, and the mux into that pair:")?;
-    let pair = Cascade::new(I8259::new(), plic, 2);
+    let (plic, mux) = parts()?;
+    let pair = Cascade::new(FullyNested::controller(), plic, 2);
     let mut controller = Cascade::new(pair, mux, 8 + 10);
     served_steps(rt, &mut controller)?;
     refused_steps(rt, &mut controller)
@@ -49,12 +54,6 @@ fn main(rt: HostRuntime) -> io::Result<()> {
     println!(rt;
         "timer is at line 8 + 64 + 1 = 73. Each step says its answer, then the record of line 73, then the offer."
     )?;
-    let Some((plic, mux)) = parts() else {
-        return Err(io::Error::from(io::ErrorKind::InvalidInput));
-    };
-    mux_first(&rt, plic, mux)?;
-    let Some((plic, mux)) = parts() else {
-        return Err(io::Error::from(io::ErrorKind::InvalidInput));
-    };
-    plic_first(&rt, plic, mux)
+    mux_first(&rt)?;
+    plic_first(&rt)
 }

@@ -1,44 +1,10 @@
 //! Prints what is in the devicetree blobs that the arguments name: the nodes in blob order and how much there is, or
-//! the refusal. A thin program over the crate `tree`.
+//! the refusal. A thin program over the crates `tree` and `listing`.
 #![tactic(auto)]
 
-use std::io::Write;
-use std::{env, fs, io};
-
-mod listing;
-
-use listing::listing;
-
-// The listing of one file, on standard output, under the file's name where it is one of several.
-fn inspect(rt: &HostRuntime, name: &str, several: bool) -> io::Result<()> {
-    let bytes = match fs::read(rt, name) {
-        Ok(bytes) => bytes,
-        Err(error) => {
-            eprintln!(rt; "inspect: cannot read {name}: {error}")?;
-            return Err(error);
-        }
-    };
-    if several {
-        println!(rt; "{name}:")?;
-    }
-    let out = listing(rt.alloc(), bytes.as_slice())?;
-    let mut stdout = rt.stdout();
-    stdout.write_all(out.as_slice())
-}
+use listing::files::list_files;
+use std::io;
 
 fn main(rt: HostRuntime) -> io::Result<()> {
-    let mut count = env::args(&rt)?;
-    let several = count.next().is_some() && count.next().is_some() && count.next().is_some();
-    let mut names = env::args(&rt)?;
-    let _program = names.next();
-    let mut none = true;
-    for name in names {
-        none = false;
-        inspect(&rt, name.as_str(), several)?;
-    }
-    if none {
-        eprintln!(rt; "usage: inspect FILE...")?;
-        return Err(io::Error::from(io::ErrorKind::InvalidInput));
-    }
-    Ok(())
+    list_files(&rt, "inspect", |heap, _tree| Ok(Vec::new(heap)))
 }

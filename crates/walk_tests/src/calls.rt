@@ -1,6 +1,7 @@
 // The calls of a walk, one a line.
-use super::record::{put_offer, put_record, put_records};
-use super::text::Text;
+use super::error::WalkError;
+use super::record::{Offer, Record};
+use super::walk::Walk;
 use controller::call::{CallFault, Change};
 use controller::interface::Controller;
 use line::row::Sense;
@@ -20,12 +21,8 @@ fn change_of(word: &str) -> Option<Change> {
     }
 }
 
-// Makes a change by the call that has its name.
-pub fn make<C: Controller>(
-    controller: &mut C,
-    line: usize,
-    change: Change,
-) -> Result<(), CallFault> {
+// Makes a change by the call that has its name, so that the walks try the four named calls too.
+fn make<C: Controller>(controller: &mut C, line: usize, change: Change) -> Result<(), CallFault> {
     match change {
         Change::Drive(high) => controller.drive(line, high),
         Change::Mask(on) => controller.set_mask(line, on),
@@ -34,71 +31,82 @@ pub fn make<C: Controller>(
     }
 }
 
-// A call on one line: its answer, the offer and the line's record after it.
-fn change_line<C: Controller>(out: &mut Text, controller: &mut C, line: usize, change: Change) {
-    match make(controller, line, change) {
-        Ok(()) => out.word(" done"),
-        Err(fault) => {
-            out.word(" refused ");
-            out.number(fault.number() as usize);
+impl Walk<'_> {
+    // Makes the calls of the walk, and writes what each of them gives.
+    pub fn make_calls<C: Controller + Drop>(&mut self, mut controller: C) -> Result<(), WalkError> {
+        writeln!(self.written, "width {}", controller.width())?;
+        for call in self.calls.lines() {
+            write!(self.written, "{call}:")?;
+            match call.split_once(' ') {
+                Some((word, number)) => self.call_on_line(&mut controller, word, number)?,
+                None => self.call_on_none(&mut controller, call)?,
+            }
+            writeln!(self.written)?;
+        }
+        Ok(())
+    }
+
+    // A call with the number of a line: its answer, the offer and the line's record after it.
+    fn call_on_line<C: Controller>(
+        &mut self,
+        controller: &mut C,
+        word: &str,
+        number: &str,
+    ) -> Result<(), WalkError> {
+        let change = change_of(word).ok_or(WalkError::UnknownWord)?;
+        let line = number.parse::<usize>()?;
+        match make(controller, line, change) {
+            Ok(()) => write!(self.written, " done")?,
+            Err(fault) => write!(self.written, " refused {}", u8::from(fault))?,
+        }
+        self.write_state(controller, line)
+    }
+
+    // A call on no line: a claim, a reset, or the records of all lines.
+    fn call_on_none<C: Controller>(
+        &mut self,
+        controller: &mut C,
+        word: &str,
+    ) -> Result<(), WalkError> {
+        match word {
+            "claim" => self.claim(controller),
+            "reset" => {
+                controller.reset();
+                write!(self.written, " done; {}", Offer(controller.offer()))?;
+                Ok(())
+            }
+            "all" => {
+                for line in 0..controller.width() {
+                    write!(self.written, " {}", Record(controller.record(line)))?;
+                }
+                Ok(())
+            }
+            _ => Err(WalkError::UnknownWord),
         }
     }
-    put_offer(out, controller);
-    out.word("; ");
-    put_record(out, controller, line);
-}
 
-// A claim: the line that it names, the offer and that line's record after it.
-fn claim<C: Controller>(out: &mut Text, controller: &mut C) {
-    match controller.claim() {
-        Some(line) => {
-            out.word(" ");
-            out.number(line);
-            put_offer(out, controller);
-            out.word("; ");
-            put_record(out, controller, line);
-        }
-        None => {
-            out.word(" none");
-            put_offer(out, controller);
+    // A claim: the line that it names, the offer and that line's record after it.
+    fn claim<C: Controller>(&mut self, controller: &mut C) -> Result<(), WalkError> {
+        match controller.claim() {
+            Some(line) => {
+                write!(self.written, " {line}")?;
+                self.write_state(controller, line)
+            }
+            None => {
+                write!(self.written, " none; {}", Offer(controller.offer()))?;
+                Ok(())
+            }
         }
     }
-}
 
-// A call on no line: a claim, a reset, or the records of all lines.
-fn call_on_none<C: Controller>(out: &mut Text, controller: &mut C, word: &str) {
-    match word {
-        "claim" => claim(out, controller),
-        "reset" => {
-            controller.reset();
-            out.word(" done");
-            put_offer(out, controller);
-        }
-        "all" => put_records(out, controller),
-        _ => out.good = false,
-    }
-}
-
-// A call with the number of a line.
-fn call_on_line<C: Controller>(out: &mut Text, controller: &mut C, word: &str, number: &str) {
-    match (change_of(word), number.parse::<usize>()) {
-        (Some(change), Ok(line)) => change_line(out, controller, line, change),
-        _ => out.good = false,
-    }
-}
-
-// Makes the calls of a walk, and writes what each of them gives.
-pub fn walk<C: Controller + Drop>(out: &mut Text, mut controller: C, calls: &str) {
-    out.word("width ");
-    out.number(controller.width());
-    out.word("\n");
-    for call in calls.lines() {
-        out.word(call);
-        out.word(":");
-        match call.split_once(' ') {
-            Some((word, number)) => call_on_line(out, &mut controller, word, number),
-            None => call_on_none(out, &mut controller, call),
-        }
-        out.word("\n");
+    // The offer and the record of a line, after a call.
+    fn write_state<C: Controller>(&mut self, controller: &C, line: usize) -> Result<(), WalkError> {
+        write!(
+            self.written,
+            "; {}; {}",
+            Offer(controller.offer()),
+            Record(controller.record(line))
+        )?;
+        Ok(())
     }
 }

@@ -5,12 +5,11 @@
 use std::{env, fs, io};
 
 mod calls;
+mod error;
 mod record;
 mod shape;
-mod text;
 mod walk;
 
-use text::Text;
 use walk::run_walk;
 
 // Runs the walks of a file, each of which begins with `#`.
@@ -18,12 +17,8 @@ fn run_file(rt: &HostRuntime, name: &str) -> io::Result<()> {
     let text = fs::read_to_string(rt, name)?;
     println!(rt; "{name}")?;
     for walk in text.as_str().split('#').skip(1) {
-        let mut out = Text::new(rt.alloc());
-        run_walk(&mut out, walk);
-        if !out.good {
-            return Err(io::Error::from(io::ErrorKind::InvalidData));
-        }
-        rt.print(out.written.as_str())?;
+        let written = run_walk(rt.alloc(), walk)?;
+        rt.print(written.as_str())?;
     }
     Ok(())
 }

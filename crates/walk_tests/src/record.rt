@@ -1,42 +1,41 @@
 // Records and offers as text.
-use super::text::Text;
-use controller::interface::Controller;
+use controller::call::CallFault;
+use line::record::Line;
 use line::row::{Row, Sense};
+use std::fmt;
 
-// Five letters, one a field.
-fn put_row(out: &mut Text, row: Row) {
-    out.word(match row.sense {
-        Sense::Edge => "e",
-        Sense::Following => "f",
-        Sense::Gated => "g",
-    });
-    out.either(row.level, "h", "l");
-    out.either(row.request, "r", "-");
-    out.either(row.service, "s", "-");
-    out.either(row.mask, "m", "-");
-}
+// The record of a line in five letters, one a field, or the number of the refusal.
+#[derive(Drop)]
+pub struct Record(pub Result<Line, CallFault>);
 
-// The record of a line, or the number of the refusal.
-pub fn put_record<C: Controller>(out: &mut Text, controller: &C, line: usize) {
-    match controller.record(line) {
-        Ok(line) => put_row(out, line.row()),
-        Err(fault) => out.number(fault.number() as usize),
+impl fmt::Display for Record {
+    fn fmt<W: fmt::Write>(&self, f: &mut fmt::Formatter<W>) -> fmt::Result {
+        let row = match self.0 {
+            Ok(line) => Row::from(line),
+            Err(fault) => return write!(f, "{}", u8::from(fault)),
+        };
+        let sense = match row.sense {
+            Sense::Edge => 'e',
+            Sense::Following => 'f',
+            Sense::Gated => 'g',
+        };
+        let level = if row.level { 'h' } else { 'l' };
+        let request = if row.request { 'r' } else { '-' };
+        let service = if row.service { 's' } else { '-' };
+        let mask = if row.mask { 'm' } else { '-' };
+        write!(f, "{sense}{level}{request}{service}{mask}")
     }
 }
 
-// The records of all lines.
-pub fn put_records<C: Controller>(out: &mut Text, controller: &C) {
-    for line in 0..controller.width() {
-        out.word(" ");
-        put_record(out, controller, line);
-    }
-}
+// The offer.
+#[derive(Drop)]
+pub struct Offer(pub Option<usize>);
 
-// The offer, after what a call answered.
-pub fn put_offer<C: Controller>(out: &mut Text, controller: &C) {
-    out.word("; offer ");
-    match controller.offer() {
-        Some(line) => out.number(line),
-        None => out.word("none"),
+impl fmt::Display for Offer {
+    fn fmt<W: fmt::Write>(&self, f: &mut fmt::Formatter<W>) -> fmt::Result {
+        match self.0 {
+            Some(line) => write!(f, "offer {line}"),
+            None => write!(f, "offer none"),
+        }
     }
 }

@@ -1,0 +1,45 @@
+ghost use Rattle.std.specs.Prelude.{◌≡◌};
+ghost use Rattle.faults.specs.declared.fault.RouteFault.TheVariants.{Token};
+ghost use Rattle.listing.specs.declared.stop.Stop.TheVariants.{Fault, Memory};
+
+use faults::fault::{RouteFault, TokenFault};
+use std::alloc::{AllocError, AllocFailed};
+
+// Why a listing ends early.
+#[derive(Clone, Copy, PartialEq, Eq, Debug)]
+pub enum Stop {
+    Fault(RouteFault),
+    Memory,
+}
+
+impl From<RouteFault> for Stop {
+    ghost from_gives = { λ f r. r ≡ Fault f };
+
+    fn from(f: RouteFault) -> Stop {
+        Stop::Fault(f)
+    }
+}
+
+impl From<TokenFault> for Stop {
+    ghost from_gives = { λ f r. r ≡ Fault (Token f) };
+
+    fn from(f: TokenFault) -> Stop {
+        Stop::Fault(RouteFault::Token(f))
+    }
+}
+
+impl From<AllocError> for Stop {
+    ghost from_gives = { λ e r. r ≡ Memory };
+
+    fn from(_e: AllocError) -> Stop {
+        Stop::Memory
+    }
+}
+
+impl<T: Drop> From<AllocFailed<T>> for Stop {
+    ghost from_gives = { λ e r. r ≡ Memory };
+
+    fn from(_e: AllocFailed<T>) -> Stop {
+        Self::Memory
+    }
+}
