@@ -1,16 +1,11 @@
 -- The interrupt parent of a node.
 use Rattle.std.specs.Prelude.{ℕ, zero, suc, cond, List, Some, None, Ok, Err, codes, Option, Result}
-use Rattle.std.specs.declared.ops.ControlFlow.{ControlFlow}
-use Rattle.std.specs.declared.ops.ControlFlow.TheVariants.{Break, Continue}
 use Rattle.faults.specs.declared.fault.RouteFault.{RouteFault}
 use Rattle.faults.specs.declared.fault.RouteFault.TheVariants.{NoParent}
 use Rattle.fdt.specs.Tokens.{at, after}
 use Rattle.nodes.specs.Finding.{parent_of}
-use Rattle.tree.specs.declared.node.Node.{Node}
-use Rattle.tree.specs.declared.tree.Tree.{Tree}
 use Rattle.tree.specs.Nodes.{Entry, Listed}
 use Rattle.tree.specs.Phandles.{held, places}
-use Rattle.tree.specs.Reads.{entry_in}
 use Rattle.values.specs.Values.{Cell, cell_in, has, node_of}
 
 abbrev pub candidate_by : List Listed → Entry → Option Cell → Result (Option Entry) RouteFault
@@ -34,20 +29,3 @@ parent_within (suc k) es device e = after (candidate es e) (parent_by (parent_wi
 -- the interrupt parent of a device: at most 64 candidates are looked at
 unfoldable pub interrupt_parent : List Listed → Entry → Result Entry RouteFault
 interrupt_parent es e = parent_within 64 es e.place e
-
--- what becomes of the search at a candidate: it breaks with the interrupt parent, or goes on from another node
-abbrev pub Looked : Type 0 → Type 0
-Looked N = ControlFlow N N
-
-abbrev pub looked_in : Tree → Result (Looked Node) RouteFault → Result (Looked Entry) RouteFault
-looked_in t (Ok (Break n)) = Ok (Break (entry_in t n))
-looked_in t (Ok (Continue n)) = Ok (Continue (entry_in t n))
-looked_in t (Err f) = Err f
-
-abbrev pub look_by : ℕ → Option Entry → Result (Looked Entry) RouteFault
-look_by device None = Err (NoParent (at device))
-look_by device (Some c) = after (has (codes "#interrupt-cells") c) (λ h. cond h (Ok (Break c)) (Ok (Continue c)))
-
--- what is seen of the next candidate
-abbrev pub look : List Listed → ℕ → Entry → Result (Looked Entry) RouteFault
-look es device e = after (candidate es e) (look_by device)

@@ -3,14 +3,13 @@
 #![tactic(auto)]
 
 ghost use Rattle.std.specs.Prelude.{◌≡◌};
-ghost use Rattle.interrupt_parent.specs.Parents.{candidate, interrupt_parent, look, looked_in};
+ghost use Rattle.interrupt_parent.specs.Parents.{candidate, interrupt_parent};
 ghost use Rattle.tree.specs.Reads.{entry_in, nodes_of};
 ghost use Rattle.values.specs.Values.{node_option, place_in};
 
 use faults::fault::RouteFault;
 use faults::place::{At, Place};
 use nodes::parent;
-use std::ops::ControlFlow;
 use tree::node::Node;
 use tree::tree::Tree;
 use values::property::{cell_in, has, node_of};
@@ -34,23 +33,6 @@ fn candidate<'a>(tree: &Tree<'a>, node: &Node<'a>) -> Result<Option<Node<'a>>, R
     }
 }
 
-// Looks at the next candidate: it is the interrupt parent, or the search goes on from it.
-fn look<'a>(
-    tree: &Tree<'a>,
-    device: Place,
-    node: &Node<'a>,
-) -> Result<ControlFlow<Node<'a>, Node<'a>>, RouteFault>
-    ensures { looked_in tree.now result ≡ look (nodes_of tree.now) device.0 (entry_in tree.now node.now) }
-{
-    let Some(next) = candidate(tree, node)? else {
-        return Err(RouteFault::NoParent(device));
-    };
-    if has(tree, &next, b"#interrupt-cells")? {
-        return Ok(ControlFlow::Break(next));
-    }
-    Ok(ControlFlow::Continue(next))
-}
-
 // The interrupt parent of a device; 8 and 12 for an `interrupt-parent`, 13 where there is none among 64 candidates.
 #[tactic(auto, using(crate::proofs::Further::looked_once, crate::proofs::Further::looked_at_all), unfolding(crate::specs::Parents::interrupt_parent))]
 pub fn interrupt_parent<'a>(tree: &Tree<'a>, device: &Node<'a>) -> Result<Node<'a>, RouteFault>
@@ -58,9 +40,9 @@ pub fn interrupt_parent<'a>(tree: &Tree<'a>, device: &Node<'a>) -> Result<Node<'
 {
     let mut at = *device;
     for _looked in 0..CANDIDATES {
-        match look(tree, device.place, &at)? {
-            ControlFlow::Break(parent) => return Ok(parent),
-            ControlFlow::Continue(next) => at = next,
+        at = candidate(tree, &at)?.ok_or(RouteFault::NoParent(device.place))?;
+        if has(tree, &at, b"#interrupt-cells")? {
+            return Ok(at);
         }
     }
     Err(RouteFault::NoParent(device.place))
