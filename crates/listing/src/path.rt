@@ -21,6 +21,7 @@ impl<'a> Path<'a> {
     }
 
     // Goes to a node, of which the nodes above it were gone to last.
+    #[tactic(auto, using(crate::proofs::Pushed::pushed))]
     pub fn enter(&mut self, node: &Node<'a>) -> Result<(), AllocError>
         ensures ok { OnOk result (names_of self.new ≡ entered node.now.body.depth node.now.name.bytes.now (names_of self.old)) }
         ensures err { OnErr result (names_of self.new ≡ above node.now.body.depth (names_of self.old)) }

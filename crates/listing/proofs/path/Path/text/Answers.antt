@@ -1,4 +1,4 @@
-use Rattle.std.proofs.Common.{◌≡◌, ◌≢◌, ◌∷◌, length, arith, rules, ap}
+use Rattle.std.proofs.Common.{◌≡◌, ◌≢◌, ◌∷◌, length, arith}
 use Rattle.std.proofs.lemmas.Grind.{common_steps}
 use Rattle.std.specs.List.{flat_map}
 use Rattle.listing.proofs.Roots.{empty_text, full_text}
