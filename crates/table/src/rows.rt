@@ -15,8 +15,8 @@ use line::record::Line;
 use line::row::{Row, Sense};
 
 // The rows of a controller's lines, of which the first `wide` count, 64 at most. An array and a count, since there is no heap and
-// a table is `Copy`.
-#[derive(Clone, Copy, PartialEq, Eq, Debug)]
+// a table is `Copy`. It derives no comparison, in which the rows past the width would count too.
+#[derive(Clone, Copy)]
 pub struct Table {
     rows: [Row; 64],
     wide: usize,
