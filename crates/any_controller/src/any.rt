@@ -14,8 +14,10 @@ use line::record::Line;
 use plic::chip::Plic;
 use status_mux::mux::StatusMux;
 
-// A controller of any of the three kinds. It is an enum with a match in each call, since there is no heap for a boxed
-// controller.
+// A controller of any of the three kinds, an enum with a match in each call. There is no heap for a boxed controller, no function
+// may hand out a `&dyn Controller`, and a macro would only write the same match. One `OverTable` with an order that is any of the
+// three would need the order taken out of its controller, and only a kind's own crate makes orders, so that no controller has a
+// width out of its kind's range.
 #[derive(Drop)]
 pub enum AnyController {
     I8259(I8259),

@@ -11,11 +11,12 @@ use Rattle.line.specs.Steps.{reset, sensed, masked}
 use Rattle.controller.specs.declared.call.CallFault.{CallFault}
 use Rattle.controller.specs.declared.call.Change.{Change}
 use Rattle.controller.specs.declared.call.Change.TheVariants.{Mask, Sense}
-use Rattle.controller.specs.Calls.{guard, step_of}
+use Rattle.controller.specs.Calls.{guard, outcome, step_of}
 use Rattle.controller.specs.Meaning.{Meaning, Changed, at, moved, all_reset}
+use Rattle.controller.proofs.Resets.{reset_again}
 use Rattle.cascade.specs.declared.fault.CascadeFault.{CascadeFault}
 use Rattle.cascade.specs.Pairs.{pair_lines, pair, used, busy, Linked, Tied, Bound, Settled}
-use Rattle.cascade.specs.Questions.{question_of, outcome, made_lines, wired_by, made_wired}
+use Rattle.cascade.specs.Questions.{question_of, made_lines, wired_by, made_wired}
 use Rattle.cascade.specs.Places.{within}
 use Rattle.cascade.proofs.Serving.{accepted_at}
 
@@ -61,11 +62,6 @@ restarts_at p p₂ p₃ c row k r s slot room ep ec x y =
           ∙ ap (λ (ls : List (Option Row)). set ls k None) e₂ ∙ set-set p.lines k (Some r₂) None
           ∙ ap (λ (ls : List (Option Row)). set ls k None) ep;
     }
-
-pub reset_again : (ls : List (Option Row)) → all_reset (all_reset ls) ≡ all_reset ls
-reset_again [] = refl
-reset_again (None ∷ xs) = ap (λ (ys : List (Option Row)). None ∷ ys) (reset_again xs)
-reset_again (Some r ∷ xs) = ap (λ (ys : List (Option Row)). Some (reset r) ∷ ys) (reset_again xs)
 
 -- the lines of a pair whose parts were reset
 pair_reset : (ps cs : List (Option Row)) (k : ℕ) → pair_lines k (all_reset ps) (all_reset cs) ≡ all_reset (pair_lines k ps cs)

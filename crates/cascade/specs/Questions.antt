@@ -1,5 +1,5 @@
 -- Whether a child can be cascaded at a line of a parent, and what is made of the two.
-use Rattle.std.specs.Prelude.{ℕ, ◌+◌, cond, List, length, Some, None, Ok, Err, Option, Result, nat_le, nat_lt}
+use Rattle.std.specs.Prelude.{ℕ, ◌+◌, cond, List, length, Some, None, Option, nat_le, nat_lt}
 use Rattle.line.specs.declared.row.Row.{Row}
 use Rattle.controller.specs.Meaning.{at, all_reset}
 use Rattle.cascade.specs.declared.fault.CascadeFault.{CascadeFault}
@@ -21,11 +21,6 @@ if_open (Some r) u = u
 abbrev pub question_of : List (Option Row) → List (Option Row) → ℕ → Option CascadeFault
 question_of ps cs k =
     cond (nat_lt k (length ps)) (if_open (at ps k) (cond (nat_le (length ps + length cs) 256) None (Some TooWide))) (Some NoLine)
-
--- the refusal as an error, Ok where there is none
-abbrev pub outcome : Option CascadeFault → Result (Unit {0}) CascadeFault
-outcome None = Ok tt
-outcome (Some f) = Err f
 
 -- the lines of what is made, by the question's answer: a pair, or the parent alone, as a reset leaves them
 abbrev pub made_by : List (Option Row) → List (Option Row) → ℕ → Option CascadeFault → List (Option Row)

@@ -1,9 +1,10 @@
 ghost use Rattle.std.specs.Prelude.{◌≡◌, length, Some};
+ghost use Rattle.controller.specs.Calls.{outcome};
 ghost use Rattle.controller.specs.Meaning.{all_reset};
 ghost use Rattle.cascade.specs.Pairs.{Linked, Released, Settled};
 ghost use Rattle.cascade.specs.Parts.{Made, pair_meaning, PairSound};
 ghost use Rattle.cascade.specs.Sides.{side_of};
-ghost use Rattle.cascade.specs.Questions.{outcome, question_of};
+ghost use Rattle.cascade.specs.Questions.{question_of};
 ghost use Rattle.cascade.specs.Pairing.{pair_lawful};
 
 use crate::fault::CascadeFault;
@@ -32,8 +33,9 @@ enum Side {
     Child(usize, usize),
 }
 
-// Drives line k of the parent to whether the child has an offer. It takes the parts, since the parent alone changes; what it
-// promises holds where the parts meet their conditions, as in the interface.
+// Drives line k of the parent to whether the child has an offer. It takes the parts, since the parent alone changes: as a method
+// it would have to promise too that the child and the wired line stay. What it promises holds where the parts meet their
+// conditions, as in the interface.
 fn settle<P: Controller, C: Controller>(parent: &mut P, child: &C, k: usize)
     ensures keeps { P.Controller.sound parent.old → P.Controller.sound parent.new }
     ensures settled { P.Controller.sound parent.old → C.Controller.sound child.now → Linked (P.Controller.meaning parent.old) (C.Controller.meaning child.now) k → Settled (P.Controller.meaning parent.old) (P.Controller.meaning parent.new) (C.Controller.meaning child.now) k }

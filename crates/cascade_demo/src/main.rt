@@ -13,7 +13,7 @@ use std::io;
 mod steps;
 mod words;
 
-use steps::{refused_steps, served_steps};
+use steps::Demo;
 
 // The PLIC with 64 lines, each of priority 1 since no list gives another, and the status mux with 4 lines; an error only if
 // a width were out of range.
@@ -27,21 +27,19 @@ fn parts() -> io::Result<(Plic, StatusMux)> {
 }
 
 fn mux_first(rt: &HostRuntime) -> io::Result<()> {
-    println!(rt; "\nThe mux is cascaded into the PLIC, and that pair into the 8259A:")?;
     let (plic, mux) = parts()?;
     let pair = Cascade::new(plic, mux, 10);
-    let mut controller = Cascade::new(FullyNested::controller(), pair, 2);
-    served_steps(rt, &mut controller)?;
-    refused_steps(rt, &mut controller)
+    let controller = Cascade::new(FullyNested::controller(), pair, 2);
+    let mut demo = Demo { rt, controller };
+    demo.run("The mux is cascaded into the PLIC, and that pair into the 8259A:")
 }
 
 fn plic_first(rt: &HostRuntime) -> io::Result<()> {
-    println!(rt; "\nThe PLIC is cascaded into the 8259A, and the mux into that pair:")?;
     let (plic, mux) = parts()?;
     let pair = Cascade::new(FullyNested::controller(), plic, 2);
-    let mut controller = Cascade::new(pair, mux, 8 + 10);
-    served_steps(rt, &mut controller)?;
-    refused_steps(rt, &mut controller)
+    let controller = Cascade::new(pair, mux, 8 + 10);
+    let mut demo = Demo { rt, controller };
+    demo.run("The PLIC is cascaded into the 8259A, and the mux into that pair:")
 }
 
 fn main(rt: HostRuntime) -> io::Result<()> {

@@ -2,7 +2,8 @@
 #![tactic(auto)]
 
 ghost use Rattle.std.specs.Prelude.{◌≡◌, ◌==◌, ◌^◌, ◌<◌, length, take, drop, slice_index};
-ghost use Rattle.cell_list.specs.CellLists.{cells_in, cells_of};
+ghost use Rattle.std.specs.Iterator.{YieldsFirst, item_count};
+ghost use Rattle.cell_list.specs.CellLists.{cells_in, cells_left, cells_of};
 
 // The cells of a part of the blob, each as its four bytes. It is `Copy` and has a lifetime, so it can have no `impl Model`.
 #[derive(Clone, Copy, PartialEq, Eq, Debug)]
@@ -64,5 +65,32 @@ impl<'a> CellList<'a> {
         CellList {
             cells: &self.cells[from.min(self.cells.len())..],
         }
+    }
+
+    // The cells in order.
+    pub fn iter(&self) -> CellIter<'a>
+        ensures { cells_left result ≡ cells_in self.now }
+    {
+        CellIter { left: *self }
+    }
+}
+
+// The cells of a list that are left.
+#[derive(Drop)]
+pub struct CellIter<'a> {
+    left: CellList<'a>,
+}
+
+impl<'a> Iterator for CellIter<'a> {
+    type Item = u32;
+
+    ghost next_gives = { YieldsFirst cells_left };
+
+    ghost remaining = { item_count cells_left };
+
+    fn next(&mut self) -> Option<u32> {
+        let (first, rest) = self.left.cells.split_first()?;
+        self.left.cells = rest;
+        Some(u32::from_be_bytes(*first))
     }
 }

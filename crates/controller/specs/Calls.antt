@@ -32,13 +32,13 @@ guard (Sense s) r = cond r.service (Some InService) None
 guard Complete r = cond r.service None (Some NotInService)
 
 -- the answer of a test that finds this fault, or none
-abbrev pub unless : Option CallFault → Result (Unit {0}) CallFault
-unless None = Ok tt
-unless (Some f) = Err f
+abbrev pub outcome : {F : Type 0} → Option F → Result (Unit {0}) F
+outcome None = Ok tt
+outcome (Some f) = Err f
 
 -- whether an open line of this record takes the change
 abbrev pub allowance : Change → Row → Result (Unit {0}) CallFault
-allowance c r = unless (guard c r)
+allowance c r = outcome (guard c r)
 
 -- a record that was answered, as a row
 abbrev pub record_seen : Result Line CallFault → Result Row CallFault

@@ -3,7 +3,7 @@ ghost use Rattle.controller.specs.Calls.{allowance, number_of, step_of};
 ghost use Rattle.line.specs.Lines.{row_of};
 
 use line::record::Line;
-use line::row::{Row, Sense, Step};
+use line::row::{Sense, Step};
 
 // Why a call on a line is refused, in the order of testing: 25, then 31, then 30 or 32.
 #[derive(Clone, Copy, PartialEq, Eq, Debug)]
@@ -64,8 +64,7 @@ impl Change {
     pub fn allowed(self, line: Line) -> Result<(), CallFault>
         ensures { result ≡ allowance self (row_of line) }
     {
-        let service = Row::from(line).service;
-        match (self, service) {
+        match (self, line.serves()) {
             (Change::Sense(_), true) => Err(CallFault::InService),
             (Change::Complete, false) => Err(CallFault::NotInService),
             _ => Ok(()),

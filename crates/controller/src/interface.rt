@@ -8,7 +8,8 @@ use line::record::Line;
 use line::row::Sense;
 
 // A controller of any make. Where a promise needs the condition `sound`, it is an implication: every call keeps the
-// condition, and a reset makes it hold from any value.
+// condition, and a reset makes it hold from any value. It is no invariant of a type, since a cascade's ties its two parts, of which
+// nothing is known but this interface.
 pub trait Controller {
     ghost sound: { Self → Type 0 };
 

@@ -1,4 +1,5 @@
-ghost use Rattle.std.specs.Prelude.{Some, decimal};
+ghost use Rattle.std.specs.Prelude.{◌≡◌, Some, decimal};
+ghost use Rattle.faults.specs.Places.{places};
 
 use std::fmt;
 
@@ -19,4 +20,20 @@ impl fmt::Display for Place {
 pub struct At {
     pub node: Place,
     pub property: Place,
+}
+
+impl At {
+    // At a property of a node.
+    pub fn new(node: Place, property: Place) -> At
+        ensures { result ≡ places node.0 property.0 }
+    {
+        At { node, property }
+    }
+
+    // At a node that misses the property.
+    pub fn missing(node: Place) -> At
+        ensures { result ≡ places node.0 0 }
+    {
+        At::new(node, Place(0))
+    }
 }

@@ -6,7 +6,7 @@ use super::place::{At, Place};
 use std::fmt;
 
 // A fault as it is reported: layer, number, the node's place and the property's, 0 where there is none. Layer and number stay
-// numbers, as they are looked up by their number.
+// numbers: a technician looks a refusal up by them, in docs/REFUSALS.md.
 #[derive(Clone, Copy, PartialEq, Eq, Debug)]
 pub struct Report {
     pub layer: u8,
@@ -84,13 +84,7 @@ impl From<RouteFault> for Report {
             RouteFault::Value(at) => (8, at),
             RouteFault::Phandle(at) => (9, at),
             RouteFault::NoNode(at) => (12, at),
-            RouteFault::NoParent(node) => (
-                13,
-                At {
-                    node,
-                    property: Place(0),
-                },
-            ),
+            RouteFault::NoParent(node) => (13, At::missing(node)),
             RouteFault::Short(at) => (14, at),
             RouteFault::NoEnd(at) => (15, at),
             RouteFault::Row(at) => (16, at),

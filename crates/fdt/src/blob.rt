@@ -43,6 +43,7 @@ impl<'a> Blob<'a> {
     }
 
     // The token at a place, and the place of the next one; 5 with this place where no token can be read.
+    #[tactic(auto, using(crate::proofs::Standing::token_stands, crate::proofs::Onward::items_is))]
     pub fn token_at(&self, place: Place) -> Result<Step<'a>, TokenFault>
         ensures is { step_seen result ≡ token_of self.now place.0 }
         ensures stands { TokenStands self.now.bytes.now (step_seen result) }
@@ -54,7 +55,7 @@ impl<'a> Blob<'a> {
     }
 
     // The token that begins with the cell at a place, which is a multiple of 4 in the structure block. What `token_at`
-    // promises besides follows from this, in one step for all kinds of tokens.
+    // promises besides follows from this in one step for all kinds of tokens; as one function, eight goals stayed open.
     fn read_token(&self, place: Place) -> Result<Step<'a>, TokenFault>
         ensures { step_seen result ≡ token_of self.now place.0 }
     {

@@ -1,6 +1,7 @@
 -- The claims of an edge device that is kept up with, each claim finding it waiting, follow from its changes.
-use Rattle.std.proofs.Common.{◌≡◌, ℕ, ◌+◌, Bool, true, false, not, ◌&&◌, ◌||◌, List, [], ◌∷◌, ◌++◌, sym, refl, ap, ◌∙◌, arith}
+use Rattle.std.proofs.Common.{◌≡◌, ℕ, ◌+◌, Bool, true, false, cond, not, ◌&&◌, ◌||◌, List, [], ◌∷◌, ◌++◌, count_by, sym, refl, ap, ◌∙◌, arith}
 use Rattle.std.proofs.lemmas.Bool.{false≢true}
+use Rattle.std.proofs.lemmas.List.Recursion.{is_count_by}
 use Rattle.line.specs.declared.row.Row.{Row}
 use Rattle.line.specs.declared.row.Sense.TheVariants.{Edge}
 use Rattle.line.specs.declared.row.Step.{Step}
@@ -27,6 +28,14 @@ claim_step Reset = 0
 abbrev claim_steps : List Step → ℕ
 claim_steps [] = 0
 claim_steps (s ∷ ss) = claim_step s + claim_steps ss
+
+-- the claims are counted by the test of an event
+counts : (b : Bool) (n : ℕ) → one b + n ≡ cond b (1 + n) n
+counts true n = refl
+counts false n = omega arith
+
+pub claims_count : (i : ℕ) (h : List Event) → claims i h ≡ count_by (λ e. is_claim i e.call e.answer) h
+claims_count i h = is_count_by (claims i) (λ e. is_claim i e.call e.answer) refl (λ e t. counts _ _) h
 
 in_call : (i : ℕ) (c : Call) (a : Answer) (t : List Step) → claim_steps (at_most_one (step_by i c a) ++ t) ≡ one (is_claim i c a) + claim_steps t
 in_call i c a t = grind arith
@@ -112,3 +121,8 @@ counted i h w k =
 -- equal changes give equal claims
 pub claims_by_changes : (i : ℕ) (h : List Event) → Counted Edge i h (claims i h)
 claims_by_changes i h j k same wi wj ki kj = counted i h wi ki ∙ ap (owed false false true) same ∙ sym (counted j k wj kj)
+
+-- and equal counts of the test
+pub counts_by_changes : (i : ℕ) (h : List Event) (j : ℕ) (k : List Event) → changes i h ≡ changes j k → ClaimsWait Edge i h → ClaimsWait Edge j k → KeptUp Edge i h → KeptUp Edge j k
+    → count_by (λ e. is_claim i e.call e.answer) h ≡ claims j k
+counts_by_changes i h j k same wi wj ki kj = sym (claims_count i h) ∙ claims_by_changes i h j k same wi wj ki kj

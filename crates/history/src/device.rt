@@ -12,7 +12,7 @@ use crate::call::{Answer, Call, Event};
 use line::record::Line;
 use line::row::{Sense, Step};
 
-// Each question takes the device and the events as they are lent, and no struct keeps the two.
+// Each question takes the device and the events: a struct of the two would be made for one question and let go after it.
 // How a device of this sense stands after the events. Equal own steps give equal records, whatever the lists.
 pub fn stands(sense: Sense, device: usize, events: &[Event]) -> Line
     ensures is { row_of result ≡ stands_after sense device events.now }
@@ -41,6 +41,7 @@ pub fn kept_up(sense: Sense, device: usize, events: &[Event]) -> bool
 }
 
 // How many claims named a device. For an edge device that was kept up with and waited at each claim, its changes say it.
+#[tactic(auto, using(crate::proofs::Counting::claims_count, crate::proofs::Counting::counts_by_changes))]
 pub fn claims(device: usize, events: &[Event]) -> usize
     ensures is { result ≡ claims_in device events.now }
     ensures kept { Counted Edge device events.now result }

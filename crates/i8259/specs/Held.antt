@@ -10,16 +10,16 @@ use Rattle.controller.specs.Meaning.{Lawful, at}
 use Rattle.table.specs.declared.rows.Table.{Table}
 use Rattle.table.specs.Tables.{table_lines}
 use Rattle.table.specs.Kinds.{OfferedBy, meaning_by, ready, serving}
-use Rattle.table.specs.Orders.{lawful_by, nothing, offered_by, ready_waits, serves_serving, serving_serves, there, waits_ready}
+use Rattle.table.specs.Orders.{lawful_by, offered_by, ready_waits, serves_serving, serving_serves, there, waits_ready}
 use Rattle.i8259.specs.Offers.{LowestUnserved, held, i8259_offer, if_waiting}
 
 -- an offered line is the first that is held, and waits
 waiting_one : (ls : List (Option Row)) (j i : ℕ) (b : Bool) → ready (at ls j) ≡ b → cond b (Some j) None ≡ Some i → (Some j ≡ Some i) × (ready (at ls i) ≡ true)
 waiting_one ls j i true w e = (e, (let q : j ≡ i = cc in rw (← q) w))
-waiting_one ls j i false w e = nothing (let z : ◌≡◌ {A = ℕ} 0 1 = cc in z)
+waiting_one ls j i false w e = absurd cc
 
 waiting_of : (ls : List (Option Row)) (o : Option ℕ) (i : ℕ) → if_waiting ls o ≡ Some i → (o ≡ Some i) × (ready (at ls i) ≡ true)
-waiting_of ls None i e = nothing (let z : ◌≡◌ {A = ℕ} 0 1 = cc in z)
+waiting_of ls None i e = absurd cc
 waiting_of ls (Some j) i e = waiting_one ls j i (ready (at ls j)) refl e
 
 unserved_first : (ls : List (Option Row)) (i : ℕ) → LowestUnserved ls i → FirstAt held ls i

@@ -5,7 +5,7 @@ ghost use Rattle.table.specs.Tables.{table_lines};
 ghost use Rattle.i8259.specs.Offers.{LowestUnserved, i8259_offer};
 ghost use Rattle.i8259.specs.Held.{i8259_eager, i8259_exactly, i8259_waiting};
 
-use line::row::{Row, Sense};
+use line::row::Sense;
 use table::over::{Order, OverTable};
 use table::rows::Table;
 
@@ -41,7 +41,7 @@ impl Order for FullyNested {
     // Of the lines that wait or are in service the lowest-numbered, if it waits.
     fn choose(&self, table: &Table) -> Option<usize> {
         table
-            .lowest(|line| line.waits() || Row::from(line).service)
+            .lowest(|line| line.waits() || line.serves())
             .filter(|&i| table.waits(i))
     }
 }

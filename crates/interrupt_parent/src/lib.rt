@@ -8,7 +8,7 @@ ghost use Rattle.tree.specs.Reads.{entry_in, nodes_of};
 ghost use Rattle.values.specs.Values.{node_option, place_in};
 
 use faults::fault::RouteFault;
-use faults::place::{At, Place};
+use faults::place::At;
 use nodes::parent;
 use tree::node::Node;
 use tree::tree::Tree;
@@ -21,13 +21,10 @@ const CANDIDATES: usize = 64;
 fn candidate<'a>(tree: &Tree<'a>, node: &Node<'a>) -> Result<Option<Node<'a>>, RouteFault>
     ensures { node_option tree.now result ≡ candidate (nodes_of tree.now) (entry_in tree.now node.now) }
 {
-    match cell_in(tree, node, b"interrupt-parent", 0, u32::MAX)? {
+    match cell_in(tree, node, b"interrupt-parent", 0..=u32::MAX)? {
         None => Ok(parent(tree, node)?),
         Some(cell) => {
-            let holder = At {
-                node: node.place,
-                property: cell.property,
-            };
+            let holder = At::new(node.place, cell.property);
             Ok(Some(node_of(tree, cell.value, holder)?))
         }
     }

@@ -25,34 +25,30 @@ pub fn strings_of<'a>(node: Place, property: &Property<'a>) -> Result<Strings<'a
             property: property.place,
             value: property.value.bytes,
         }),
-        Some(_) => Err(RouteFault::Value(At {
-            node,
-            property: property.place,
-        })),
+        Some(_) => Err(RouteFault::Value(At::new(node, property.place))),
     }
 }
 
-// `compatible` of a node; 8 where a string of it is not ended.
+// `compatible` of a node; 8 where a string of it is not ended. Like `cell_in` of `values`, and apart for the same reason.
 pub fn compatible<'a>(tree: &Tree<'a>, node: &Node<'a>) -> Result<Option<Strings<'a>>, RouteFault>
     ensures { strings_option result ≡ compatible (entry_in tree.now node.now) }
 {
-    // A `match`, since the check does not follow `map` and then `transpose` through the cases of a property that may be there.
-    match tree.property(node, b"compatible")? {
-        None => Ok(None),
-        Some(property) => Ok(Some(strings_of(node.place, &property)?)),
-    }
+    let Some(property) = tree.property(node, b"compatible")? else {
+        return Ok(None);
+    };
+    Ok(Some(strings_of(node.place, &property)?))
 }
 
 // `riscv,ndev` of a node, 1 to 64; 8 where it is not.
 pub fn ndev<'a>(tree: &Tree<'a>, node: &Node<'a>) -> Result<Option<Cell>, RouteFault>
     ensures { result ≡ ndev (entry_in tree.now node.now) }
 {
-    cell_in(tree, node, b"riscv,ndev", 1, 64)
+    cell_in(tree, node, b"riscv,ndev", 1..=64)
 }
 
 // `factory,inputs` of a node, 1 to 32; 8 where it is not.
 pub fn inputs<'a>(tree: &Tree<'a>, node: &Node<'a>) -> Result<Option<Cell>, RouteFault>
     ensures { result ≡ inputs (entry_in tree.now node.now) }
 {
-    cell_in(tree, node, b"factory,inputs", 1, 32)
+    cell_in(tree, node, b"factory,inputs", 1..=32)
 }

@@ -62,6 +62,13 @@ impl Line {
         self.request && !self.service && !self.mask
     }
 
+    // In service.
+    pub fn serves(self) -> bool
+        ensures { result ≡ (row_of self).service }
+    {
+        self.service
+    }
+
     // Masked, or neither requested nor in service.
     pub fn rests(self) -> bool
         ensures { result ≡ rests (row_of self) }

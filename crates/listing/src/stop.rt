@@ -1,8 +1,10 @@
 ghost use Rattle.std.specs.Prelude.{◌≡◌};
 ghost use Rattle.faults.specs.declared.fault.RouteFault.TheVariants.{Token};
 ghost use Rattle.listing.specs.declared.stop.Stop.TheVariants.{Fault, Memory};
+ghost use Rattle.listing.specs.Stops.{reported};
 
 use faults::fault::{RouteFault, TokenFault};
+use faults::report::Report;
 use std::alloc::{AllocError, AllocFailed};
 
 // Why a listing ends early.
@@ -10,6 +12,18 @@ use std::alloc::{AllocError, AllocFailed};
 pub enum Stop {
     Fault(RouteFault),
     Memory,
+}
+
+impl Stop {
+    // The fault's report, or that memory is lacking.
+    pub fn report(self) -> Result<Report, AllocError>
+        ensures { result ≡ reported self }
+    {
+        match self {
+            Stop::Fault(fault) => Ok(Report::from(fault)),
+            Stop::Memory => Err(AllocError),
+        }
+    }
 }
 
 impl From<RouteFault> for Stop {

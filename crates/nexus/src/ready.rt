@@ -6,7 +6,7 @@ ghost use Rattle.tree.specs.Reads.{entry_in};
 
 use cell_list::CellList;
 use faults::fault::RouteFault;
-use faults::place::{At, Place};
+use faults::place::At;
 use properties::Property;
 use tree::node::Node;
 use tree::tree::Tree;
@@ -38,16 +38,10 @@ fn unit_address<'a>(
         return Ok(CellList::new(&[]));
     }
     let Some(reg) = cells_in(tree, device, b"reg")? else {
-        return Err(RouteFault::Row(At {
-            node: device.place,
-            property: Place(0),
-        }));
+        return Err(RouteFault::Row(At::missing(device.place)));
     };
     if reg.value.len() < count {
-        return Err(RouteFault::Row(At {
-            node: device.place,
-            property: reg.property,
-        }));
+        return Err(RouteFault::Row(At::new(device.place, reg.property)));
     }
     Ok(reg.value.part(0, count))
 }
@@ -79,10 +73,7 @@ fn mask_of<'a>(
         return Ok(None);
     };
     if mask.value.len() != width {
-        return Err(RouteFault::Row(At {
-            node: node.place,
-            property: mask.property,
-        }));
+        return Err(RouteFault::Row(At::new(node.place, mask.property)));
     }
     Ok(Some(mask.value))
 }
@@ -105,10 +96,7 @@ pub fn nexus_at<'a>(
     let mask = mask_of(tree, node, width)?;
     let whole = whole_cells(node.place, map)?;
     Ok(Nexus {
-        holder: At {
-            node: node.place,
-            property: map.place,
-        },
+        holder: At::new(node.place, map.place),
         width,
         unit,
         specifier,
@@ -145,6 +133,7 @@ impl<'a> Nexus<'a> {
         ensures { result ≡ matches (ready self.now) (numbers child.now) }
     {
         let count = self.unit.len() + self.specifier.len();
+        // By index: the cells to match come from two lists, and a mask that is too short has a 0, where `zip` would stop.
         child.len() == count && (0..count).all(|i| child.cell(i) == self.masked(i))
     }
 }

@@ -24,6 +24,7 @@ pub fn node_at<'a>(tree: &Tree<'a>, place: Place) -> Result<Option<Node<'a>>, To
 }
 
 // The node that a node is a subnode of; none for the root.
+#[tactic(auto, using(tree::proofs::Depths::depth_next))]
 pub fn parent<'a>(tree: &Tree<'a>, node: &Node<'a>) -> Result<Option<Node<'a>>, TokenFault>
     ensures { node_in tree.now result ≡ parent_of node.now.place.0 node.now.body.depth (nodes_of tree.now) }
 {

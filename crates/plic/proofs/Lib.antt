@@ -1,1 +1,2 @@
 pub mod Priorities
+pub mod Greatest

@@ -9,7 +9,7 @@ use Rattle.controller.specs.Meaning.{Lawful, at}
 use Rattle.table.specs.declared.rows.Table.{Table}
 use Rattle.table.specs.Tables.{table_lines}
 use Rattle.table.specs.Kinds.{OfferedBy, meaning_by, ready, serving}
-use Rattle.table.specs.Orders.{lawful_by, nothing, offered_by, ready_waits, waits_ready}
+use Rattle.table.specs.Orders.{lawful_by, offered_by, ready_waits, waits_ready}
 use Rattle.plic.specs.Offers.{Foremost, plic_offer, preferred, top, top_from}
 
 module _ (level : ℕ → ℕ) where
@@ -145,7 +145,7 @@ module _ (level : ℕ → ℕ) where
 
     both : (o : Option ℕ) → MatchOption o (Nobody (at ls) 0) (Best (at ls) 0) → (i : ℕ) → Exactly (o ≡ Some i) (Foremost level ls i)
     both None p i = record {
-      only = λ e. nothing (let z : ◌≡◌ {A = ℕ} 0 1 = cc in z);
+      only = λ e. absurd cc;
       every = λ f. absurd (both_ways (ready (at ls i)) (p i (omega arith)) (foremost_best i f).waiting);
     }
     both (Some j) p i = record {

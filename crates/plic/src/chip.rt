@@ -1,8 +1,6 @@
 ghost use Rattle.std.specs.Prelude.{◌≡◌, ℕ, ◌<◌};
-ghost use Rattle.controller.specs.Meaning.{at};
 ghost use Rattle.table.specs.Tables.{table_lines};
-ghost use Rattle.table.specs.Kinds.{ready};
-ghost use Rattle.plic.specs.Offers.{Foremost, given_level, level_of, new_lines, plic_offer, preferred};
+ghost use Rattle.plic.specs.Offers.{Foremost, given_level, level_of, new_lines, plic_offer};
 ghost use Rattle.plic.specs.Best.{plic_eager, plic_exactly, plic_waiting};
 
 use crate::plic_width::PlicWidth;
@@ -36,19 +34,6 @@ impl ByPriority {
         )
     }
 
-    // Line i or the best line above it: line i where it waits, unless the one above has a greater priority.
-    fn better(&self, table: &Table, i: usize, above: Option<usize>) -> Option<usize>
-        ensures { result ≡ preferred (level_of self.now) i (ready (at (table_lines table.now) i)) above }
-    {
-        if !table.waits(i) {
-            return above;
-        }
-        match above {
-            Some(j) if self.level(i) < self.level(j) => Some(j),
-            _ => Some(i),
-        }
-    }
-
     // The priority of line i; 0 past the last.
     fn level(&self, i: usize) -> usize
         ensures { result ≡ level_of self.now i }
@@ -77,10 +62,11 @@ impl Order for ByPriority {
 
     ghost eager = { λ x. plic_eager (level_of x) };
 
-    // From the last line to the first, the better of each line and the best above it.
+    // From the last line to the first, since `max_by_key` takes the last of equal ones.
     fn choose(&self, table: &Table) -> Option<usize> {
         (0..table.width())
             .rev()
-            .fold(None, |above, i| self.better(table, i, above))
+            .filter(|&i| table.waits(i))
+            .max_by_key(|&i| self.level(i))
     }
 }

@@ -41,6 +41,7 @@ impl Drop for Rewind<'_> {
 }
 
 // The first property from a place on, before the next node, close or end; 5 where a token cannot be read.
+#[tactic(auto, using(crate::proofs::Goes::first_goes))]
 pub fn property_from<'a>(blob: &Blob<'a>, place: Place) -> Result<Option<Property<'a>>, TokenFault>
     ensures is { property_seen result ≡ first_property (tokens_of blob.now place.0) }
     ensures goes { PropertyGoes blob.now.header place.0 result }
@@ -64,8 +65,8 @@ pub fn property_from<'a>(blob: &Blob<'a>, place: Place) -> Result<Option<Propert
 }
 
 // The first property of this name, of the node that the cursor stands in, from the cursor on; 5 where a token
-// cannot be read. Found, absent or refused, the cursor is as it was: the loop moves the cursor itself, and is no `for` over
-// tokens, and the guard brings it back on every way out.
+// cannot be read. It looks ahead with the walk's own cursor, which a guard brings back on every way out, found, absent or refused; so
+// the loop moves that cursor and is no `for` over the tokens.
 pub fn look_ahead<'a>(
     blob: &Blob<'a>,
     cursor: &mut Cursor,

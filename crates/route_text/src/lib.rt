@@ -1,14 +1,23 @@
-//! The text of a route, as programs print it: each nexus that it passes with the row taken there, the controller where it ends,
-//! and the cells that arrive there. It is a part of the programs, and allocates. The definitions are in specs/Texts.antt.
+//! Where a specifier ends, and the text of a route, as programs print it: each nexus that it passes with the row taken there, the
+//! controller where it ends, and the cells that arrive there. It is a part of the programs, and allocates. The definitions are in
+//! specs/.
 #![tactic(auto)]
 
 ghost use Rattle.std.specs.Prelude.{◌≡◌, IfOk, string_bytes};
 ghost use Rattle.cell_list.specs.CellLists.{cells_in};
+ghost use Rattle.specifiers.specs.Lists.{specified_in};
+ghost use Rattle.tree.specs.Reads.{nodes_of};
 ghost use Rattle.walk.specs.Hops.{hops_of};
+ghost use Rattle.walk.specs.Walks.{route_in};
+ghost use Rattle.route_text.specs.Ends.{end_of};
 ghost use Rattle.route_text.specs.Texts.{route_text, via_text};
 
+use faults::fault::RouteFault;
+use routing::route;
+use specifiers::Specifier;
 use std::alloc::{AllocError, Global};
 use std::fmt::Write;
+use tree::tree::Tree;
 use walk::hops::Hops;
 use walk::steps::Route;
 
@@ -19,9 +28,7 @@ pub fn route_text(heap: Global, route: &Route<'_>) -> Result<String, AllocError>
     let mut text = via_text(heap, &route.hops)?;
     let controller = route.controller.place;
     write!(text, " ends {controller} cells")?;
-    // By index, as a list of cells gives its cells.
-    for i in 0..route.cells.len() {
-        let cell = route.cells.cell(i);
+    for cell in route.cells.iter() {
         write!(text, " {cell}")?;
     }
     Ok(text)
@@ -39,4 +46,14 @@ fn via_text(heap: Global, hops: &Hops) -> Result<String, AllocError>
         write!(text, " {}:{}", hop.nexus, hop.row)?;
     }
     Ok(text)
+}
+
+// Where an item of a node's specifiers ends: the fault of one that could not be cut is its own.
+pub fn route_end<'a>(
+    tree: &Tree<'a>,
+    specifier: Result<Specifier<'a>, RouteFault>,
+) -> Result<Route<'a>, RouteFault>
+    ensures { route_in tree.now result ≡ end_of (nodes_of tree.now) (specified_in tree.now specifier.entry) }
+{
+    route(tree, &specifier?)
 }

@@ -59,7 +59,7 @@ impl Walk {
             (Token::Close, _) if depth == 1 => Ok(Walk::past(next, 0, Stage::Finished)),
             (Token::Close, _) if depth > 1 => Ok(Walk::past(next, depth - 1, Stage::Subnodes)),
             (Token::Nothing, stage) => Ok(Walk::past(next, depth, stage)),
-            (Token::End, Stage::Finished) if next.0 == end => {
+            (Token::End, Stage::Finished) if next == Place(end) => {
                 Ok(Walk::past(next, depth, Stage::Finished))
             }
             _ => Err(TokenFault::Rule(place)),
@@ -68,7 +68,7 @@ impl Walk {
 }
 
 // Walks all tokens of the structure block: 5, 6 or 7 at the first token that is refused. The walk's own cursor says where the
-// next token stands; a `for` over the tokens would have their end as one more case.
+// next token stands; a `for` over the tokens would need an answer for tokens that are over before an end token, which cannot be.
 #[tactic(auto, using(crate::proofs::Trees::accepts))]
 pub fn walk_tokens(blob: &Blob<'_>) -> Result<Walk, TokenFault>
     ensures is { result ≡ walked blob.now.bytes.now blob.now.header }

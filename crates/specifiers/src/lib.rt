@@ -62,21 +62,19 @@ pub fn specifiers_of<'a>(
 ) -> Result<Option<Specifiers<'a>>, RouteFault>
     ensures { uncut_in tree.now result ≡ specifiers_from (nodes_of tree.now) (entry_in tree.now device.now) }
 {
-    let extended = cells_in(tree, device, b"interrupts-extended")?;
-    let found = match extended {
-        Some(found) => Some(found),
-        None => cells_in(tree, device, b"interrupts")?,
-    };
-    let Some(found) = found else {
-        return Ok(None);
+    let (found, parent) = match cells_in(tree, device, b"interrupts-extended")? {
+        Some(found) => (found, None),
+        None => match cells_in(tree, device, b"interrupts")? {
+            Some(found) if !found.value.is_empty() => (
+                found,
+                Some(interrupt_parent(tree, device)?),
+            ),
+            Some(_) | None => return Ok(None),
+        },
     };
     if found.value.is_empty() {
         return Ok(None);
     }
-    let parent = match extended {
-        Some(_) => None,
-        None => Some(interrupt_parent(tree, device)?),
-    };
     Ok(Some(Specifiers {
         device: *device,
         property: found.property,
@@ -104,10 +102,7 @@ pub fn next_specifier<'a>(
     let head = head_of(tree, from)?;
     let count = interrupt_cells(tree, &head.parent)?;
     if head.cells.len() < count {
-        return Err(RouteFault::Short(At {
-            node: from.device.place,
-            property: from.property,
-        }));
+        return Err(RouteFault::Short(At::new(from.device.place, from.property)));
     }
     let specifier = Specifier {
         device: from.device,
@@ -117,11 +112,9 @@ pub fn next_specifier<'a>(
         cells: head.cells.part(0, count),
     };
     let rest = Specifiers {
-        device: from.device,
-        property: from.property,
-        parent: from.parent,
         left: head.cells.rest(count),
         index: from.index.saturating_add(1),
+        ..*from
     };
     Ok(Some(Cut { specifier, rest }))
 }
@@ -136,10 +129,7 @@ fn head_of<'a>(tree: &Tree<'a>, from: &Specifiers<'a>) -> Result<Head<'a>, Route
             cells: from.left,
         }),
         None => {
-            let holder = At {
-                node: from.device.place,
-                property: from.property,
-            };
+            let holder = At::new(from.device.place, from.property);
             Ok(Head {
                 parent: node_of(tree, from.left.cell(0), holder)?,
                 cells: from.left.rest(1),

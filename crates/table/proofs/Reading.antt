@@ -1,5 +1,5 @@
 -- A table's lines, read, written and reset.
-use Rattle.std.proofs.Common.{◌≡◌, ℕ, zero, suc, ◌<◌, ◌≤◌, min, Bool, true, false, List, [], ◌∷◌, ◌++◌, map, length, take, drop, set, replicate, Some, None, Option, sym, refl, ap, ◌∙◌, arith}
+use Rattle.std.proofs.Common.{◌≡◌, ℕ, zero, suc, ◌<◌, ◌≤◌, min, Bool, true, false, List, [], ◌∷◌, ◌++◌, map, length, take, drop, set, replicate, Some, sym, refl, ap, ◌∙◌, arith}
 use lib.Seq.{take-set-lt}
 use Rattle.std.proofs.lemmas.List.{append-nil, drop_all, length-map, length-take, map-set, take_all}
 use Rattle.line.specs.declared.row.Row.{Row}
@@ -13,7 +13,7 @@ use Rattle.table.specs.Tables.{made_line}
 pub lines_length : (w : ℕ) (xs : List Row) → length (map made_line (take w xs)) ≡ min w (length xs)
 lines_length w xs = length-map (take w xs) made_line ∙ length-take w xs
 
-pub lines_set : (w : ℕ) (xs : List Row) (i : ℕ) (r : Row) → i < w → map made_line (take w (set xs i r)) ≡ set (map made_line (take w xs)) i (Some (made r))
+lines_set : (w : ℕ) (xs : List Row) (i : ℕ) (r : Row) → i < w → map made_line (take w (set xs i r)) ≡ set (map made_line (take w xs)) i (Some (made r))
 lines_set w xs i r h = ap (map made_line) (take-set-lt w xs i r h) ∙ map-set made_line (take w xs) i r
 
 -- a row that is a record makes itself
@@ -23,11 +23,11 @@ request_same Following l v q f g = sym (f refl)
 request_same Gated l true q f g = sym (g refl refl)
 request_same Gated l false q f g = refl
 
-pub made_same : (r : Row) → Legal r → made r ≡ r
+made_same : (r : Row) → Legal r → made r ≡ r
 made_same r e = λ t. record { sense = r.sense; level = r.level; request = request_same r.sense r.level r.service r.request e.follows e.gated t; service = r.service; mask = r.mask }
 
 -- rows that are all the same record
-pub same_lines : (n w : ℕ) (r : Row) → made r ≡ r → map made_line (take w (replicate n r)) ≡ replicate (min w n) (Some r)
+same_lines : (n w : ℕ) (r : Row) → made r ≡ r → map made_line (take w (replicate n r)) ≡ replicate (min w n) (Some r)
 same_lines n zero r e = let z : min 0 n ≡ 0 = omega arith in rw z
 same_lines zero (suc w) r e = let z : min (suc w) 0 ≡ 0 = omega arith in rw z
 same_lines (suc n) (suc w) r e =
@@ -35,6 +35,16 @@ same_lines (suc n) (suc w) r e =
     let t : Some (made r) ≡ Some r = ap Some e in
     let more : map made_line (take w (replicate n r)) ≡ replicate (min w n) (Some r) = same_lines n w r e in
     rw z (cc)
+
+-- the lines of a table whose rows are all that of line l
+pub like_lines : (w : ℕ) (r l : Row) → r ≡ l → Legal r → map made_line (take w (replicate 64 r)) ≡ replicate (min w 64) (Some l)
+like_lines w r l e f = same_lines 64 w r (made_same r f) ∙ ap (λ (x : Row). replicate (min w 64) (Some x)) e
+
+-- the lines after the row of line l is written
+pub stored_lines : (w : ℕ) (xs : List Row) (i : ℕ) (r l : Row) → i < length (map made_line (take w xs)) → r ≡ l → Legal r → map made_line (take w (set xs i r)) ≡ set (map made_line (take w xs)) i (Some l)
+stored_lines w xs i r l h e f =
+    lines_set w xs i r (omega (arith, lines_length w xs, h))
+    ∙ ap (λ x. set (map made_line (take w xs)) i (Some x)) (made_same r f ∙ e)
 
 reset_made : (s : Sense) → made (fresh s) ≡ fresh s
 reset_made Edge = refl
@@ -53,9 +63,3 @@ lines_reset (suc w) (x ∷ xs) =
 -- the end of a loop that resets the rows
 pub reset_whole : (xs : List Row) (i : ℕ) → length xs ≤ i → map reset (take i xs) ++ drop i xs ≡ map reset xs
 reset_whole xs i h = rw (take_all i xs h, drop_all i xs h) (append-nil (map reset xs))
-
--- lines that were reset are as a reset leaves them
-pub reset_again : (ls : List (Option Row)) → all_reset (all_reset ls) ≡ all_reset ls
-reset_again [] = refl
-reset_again (None ∷ xs) = ap (λ (ys : List (Option Row)). None ∷ ys) (reset_again xs)
-reset_again (Some r ∷ xs) = ap (λ (ys : List (Option Row)). Some (reset r) ∷ ys) (reset_again xs)

@@ -26,19 +26,19 @@ pub made_legal : (r : Row) → Legal (made r)
 made_legal r = record { follows = λ e. follows_made r.sense r.level r.service r.request e; gated = λ e h. gated_made r.sense r.level r.service r.request e h }
 
 pub lines_legal : (xs : List Row) (i : ℕ) (r : Row) → at (map made_line xs) i ≡ Some r → Legal r
-lines_legal [] i r e = nothing (let z : ◌≡◌ {A = ℕ} 0 1 = cc in z)
+lines_legal [] i r e = absurd cc
 lines_legal (x ∷ xs) zero r e = let q : made x ≡ r = cc in rw (← q) (made_legal x)
 lines_legal (x ∷ xs) (suc i) r e = lines_legal xs i r e
 
 pub ready_waits : (x : Option Row) → ready x ≡ true → (r : Row) × (x ≡ Some r) × (waits r ≡ true)
-ready_waits None e = nothing (let z : ◌≡◌ {A = ℕ} 0 1 = cc in z)
+ready_waits None e = absurd cc
 ready_waits (Some r) e = (r, refl, e)
 
 pub waits_ready : (x : Option Row) (r : Row) → x ≡ Some r → waits r ≡ true → ready x ≡ true
 waits_ready x r e w = ap ready e ∙ w
 
 pub serving_serves : (x : Option Row) → serving x ≡ true → (r : Row) × (x ≡ Some r) × (r.service ≡ true)
-serving_serves None e = nothing (let z : ◌≡◌ {A = ℕ} 0 1 = cc in z)
+serving_serves None e = absurd cc
 serving_serves (Some r) e = (r, refl, e)
 
 pub serves_serving : (x : Option Row) (r : Row) → x ≡ Some r → r.service ≡ true → serving x ≡ true
@@ -50,7 +50,7 @@ there test n ls i e =
     ⊎_elim (λ (h : i < length ls). h)
     (λ (h : length ls ≤ i).
     let p : test (at ls i) ≡ test None = ap test (get_or_past ls i None h) in
-    nothing (let z : ◌≡◌ {A = ℕ} 0 1 = cc in z))
+    absurd cc)
     (cases_lt i (length ls))
 
 module _ (offered : List (Option Row) → Option ℕ) where
@@ -76,7 +76,7 @@ offered_by P r both =
     record {
       line = both;
       none = record {
-        only = λ e i p. let q : r ≡ Some i = (both i).every p in nothing (let z : ◌≡◌ {A = ℕ} 0 1 = cc in z);
+        only = λ e i p. let q : r ≡ Some i = (both i).every p in absurd cc;
         every = λ n. nowhere r (λ i e. n i ((both i).only e));
       };
     }

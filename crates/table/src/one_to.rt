@@ -3,6 +3,7 @@ ghost use Rattle.std.specs.Prelude.{◌≤◌};
 // A number from 1 to MOST. The type says no more than the range: two names for one MOST are one type.
 #[derive(Clone, Copy, PartialEq, Eq, Debug)]
 pub struct OneTo<const MOST: usize> {
+    // A usize, as MOST is: in a smaller type the numbers from 1 to a larger MOST would not all stand.
     number: usize,
     ghost least: { 1 ≤ number },
     ghost most: { number ≤ MOST },
@@ -11,11 +12,11 @@ pub struct OneTo<const MOST: usize> {
 // The words of clauses are imported in each `impl`, since their files name the struct.
 impl<const MOST: usize> OneTo<MOST> {
     ghost use Rattle.std.specs.Prelude.{◌≡◌};
-    ghost use Rattle.table.specs.Ranges.{in_range, number_of};
+    ghost use Rattle.table.specs.Ranges.{in_range, number_seen};
 
     // The number; none below 1 and above MOST.
     pub fn new(number: usize) -> Option<OneTo<MOST>>
-        ensures { number_of result ≡ in_range MOST number }
+        ensures { number_seen result ≡ in_range MOST number }
     {
         if 1 <= number && number <= MOST {
             Some(OneTo { number })

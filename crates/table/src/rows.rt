@@ -24,10 +24,14 @@ pub struct Table {
 
 impl Table {
     // Lines of one sense, as a reset leaves them; 64 at most.
+    #[tactic(auto, using(crate::proofs::Reading::like_lines))]
     pub fn new(wide: usize, sense: Sense) -> Table
         ensures { table_lines result ≡ replicate (min wide 64) (Some (fresh sense)) }
     {
-        Table::alike(wide, Line::fresh(sense))
+        Table {
+            rows: [Line::fresh(sense).into(); 64],
+            wide,
+        }
     }
 
     // How many lines there are.
@@ -56,7 +60,7 @@ impl Table {
     pub fn serves(&self, i: usize) -> bool
         ensures { result ≡ serving (at (table_lines self.now) i) }
     {
-        self.line(i).is_ok_and(|line| Row::from(line).service)
+        self.line(i).is_ok_and(|line| line.serves())
     }
 
     // The lowest-numbered line whose record passes a test.
@@ -87,24 +91,13 @@ impl Table {
     }
 
     // Resets every line.
-    #[tactic(auto, using(crate::proofs::Reading::reset_whole, crate::proofs::Reading::lines_reset, crate::proofs::Reading::reset_again))]
+    #[tactic(auto, using(crate::proofs::Reading::reset_whole, crate::proofs::Reading::lines_reset, controller::proofs::Resets::reset_again))]
     pub fn reset(&mut self)
         ensures resets { table_lines self.new ≡ all_reset (table_lines self.old) }
         ensures rests { table_lines self.new ≡ all_reset (table_lines self.new) }
     {
         for row in &mut self.rows[..] {
             *row = Row::from(Line::from(*row).reset());
-        }
-    }
-
-    // Lines that are all the same; 64 at most. Apart from `new`, so that what a fresh line is and how lines are laid out are
-    // promised one by one.
-    fn alike(wide: usize, line: Line) -> Table
-        ensures { table_lines result ≡ replicate (min wide 64) (Some (row_of line)) }
-    {
-        Table {
-            rows: [line.into(); 64],
-            wide,
         }
     }
 
@@ -117,6 +110,7 @@ impl Table {
     }
 
     // Writes the row of one line.
+    #[tactic(auto, using(crate::proofs::Reading::stored_lines))]
     fn store(&mut self, i: usize, new: Line)
         requires { i < length (table_lines self.old) }
         ensures { table_lines self.new ≡ slice_set (table_lines self.old) i (Some (row_of new)) }

@@ -1,6 +1,8 @@
+mod Checking
 pub mod Counting
 pub mod Depths
 mod Handles
+mod Nexts
 mod Opened
 mod Opening
 mod Owning

@@ -1,10 +1,10 @@
 -- The phandles of a tree.
+pub use Rattle.faults.specs.Places.{places}
 use Rattle.std.specs.Prelude.{◌≡◌, ℕ, ◌+◌, Bool, true, false, cond, ◌&&◌, ◌||◌, List, [], ◌∷◌, ◌++◌, length, Some, None, Ok, Err, Option, Result, ◌==◌, ◌≢◌}
 use Rattle.faults.specs.declared.fault.TokenFault.{TokenFault}
 use Rattle.cells.specs.Cells.{cell}
-use Rattle.fdt.specs.Tokens.{at, after}
+use Rattle.fdt.specs.Tokens.{after}
 use Rattle.properties.specs.Properties.{Owned, sought}
-use Rattle.faults.specs.declared.place.At.{At}
 use Rattle.faults.specs.declared.fault.RouteFault.{RouteFault}
 use Rattle.faults.specs.declared.fault.RouteFault.TheVariants.{Token, Value, Phandle}
 use Rattle.tree.specs.Nodes.{Entry, Listed, listed, broken}
@@ -16,9 +16,6 @@ phandle_name = 112 ∷ 104 ∷ 97 ∷ 110 ∷ 100 ∷ 108 ∷ 101 ∷ []
 -- the phandle property of a node: the first of that name
 abbrev pub phandle_of : Entry → Result (Option Owned) TokenFault
 phandle_of e = sought phandle_name e.rest
-
-abbrev pub places : ℕ → ℕ → At
-places node property = record { node = at node; property = at property }
 
 -- a token's fault, held whole
 abbrev pub held : {X : Type 0} → Result X TokenFault → Result X RouteFault
@@ -70,6 +67,11 @@ phandles_from n before (listed e ∷ es) =
 -- how many nodes have a phandle, or the first fault
 abbrev pub phandles : List Listed → Result ℕ RouteFault
 phandles es = phandles_from 0 [] es
+
+-- whether all is good, or the first fault
+abbrev pub checked : {X : Type 0} → Result X RouteFault → Result Unit RouteFault
+checked (Ok x) = Ok tt
+checked (Err f) = Err f
 
 -- the value of a phandle
 abbrev pub handle : Owned → ℕ

@@ -10,7 +10,7 @@ use faults::place::Place;
 use properties::Property;
 
 // The properties of a node that are left, in blob order. Where the tokens cannot be read further, the fault is the last item.
-// It is like `Nodes`, whose items say whose tree they are of; one iterator over a given step would be a closure handed out.
+// It is like `Nodes`; one iterator for both would need a trait of what it moves, its step and its item, longer than the two are.
 #[derive(Drop)]
 pub struct Properties<'a> {
     tree: Tree<'a>,

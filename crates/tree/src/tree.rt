@@ -28,7 +28,7 @@ impl<'a> Tree<'a> {
         let tree = Tree {
             blob: walked(bytes)?,
         };
-        let _count = tree.phandles()?;
+        tree.check_phandles()?;
         Ok(tree)
     }
 }

@@ -1,13 +1,13 @@
 ghost use Rattle.std.specs.Prelude.{◌≡◌, ◌≤◌, IfOk};
-ghost use Rattle.faults.specs.declared.fault.RouteFault.{RouteFault};
-ghost use Rattle.tree.specs.Phandles.{places};
+ghost use Rattle.std.specs.Range.{range_inclusive_end, range_inclusive_start};
 ghost use Rattle.tree.specs.Reads.{entry_in};
 ghost use Rattle.values.specs.Counts.{address_cells, both, count_in, counts_of, interrupt_cells, sooner};
 
 use crate::property::cell_in;
 use faults::fault::RouteFault;
-use faults::place::{At, Place};
+use faults::place::At;
 use faults::report::Report;
+use std::ops::RangeInclusive;
 use tree::node::Node;
 use tree::tree::Tree;
 
@@ -23,7 +23,8 @@ pub fn interrupt_cells<'a>(tree: &Tree<'a>, node: &Node<'a>) -> Result<usize, Ro
     ensures is { result ≡ interrupt_cells (entry_in tree.now node.now) }
     ensures some { IfOk result (λ n. (1 ≤ n) × (n ≤ 4)) }
 {
-    count_in(tree, node, b"#interrupt-cells", 1, 4, RouteFault::NoEnd)
+    let missing = RouteFault::NoEnd(At::missing(node.place));
+    count_in(tree, node, b"#interrupt-cells", 1..=4, missing)
 }
 
 // `#address-cells` of a node, 0 to 4; 8 for a wrong one, 16 where it is missing.
@@ -31,27 +32,22 @@ pub fn address_cells<'a>(tree: &Tree<'a>, node: &Node<'a>) -> Result<usize, Rout
     ensures is { result ≡ address_cells (entry_in tree.now node.now) }
     ensures few { IfOk result (λ n. n ≤ 4) }
 {
-    count_in(tree, node, b"#address-cells", 0, 4, RouteFault::Row)
+    let missing = RouteFault::Row(At::missing(node.place));
+    count_in(tree, node, b"#address-cells", 0..=4, missing)
 }
 
-// The count of this name at a node, from `low` to `high`; 8 for a wrong one, and the fault for a missing one.
-fn count_in<'a, F: FnOnce(At) -> RouteFault>(
+// The count of this name at a node, in the range; 8 for a wrong one, and the fault `missing` where there is none.
+fn count_in<'a>(
     tree: &Tree<'a>,
     node: &Node<'a>,
     name: &[u8],
-    low: u32,
-    high: u32,
-    missing: F,
+    range: RangeInclusive<u32>,
+    missing: RouteFault,
 ) -> Result<usize, RouteFault>
-    requires { F.IsAlwaysCallable missing }
-    ensures is { (fault : RouteFault) × F.post missing (places node.now.place.0 0) fault × (result ≡ count_in name.now low high fault (entry_in tree.now node.now)) }
-    ensures range { IfOk result (λ n. (low ≤ n) × (n ≤ high)) }
+    ensures is { result ≡ count_in name.now (range_inclusive_start range) (range_inclusive_end range) missing (entry_in tree.now node.now) }
+    ensures within { IfOk result (λ n. (range_inclusive_start range ≤ n) × (n ≤ range_inclusive_end range)) }
 {
-    let fault = missing(At {
-        node: node.place,
-        property: Place(0),
-    });
-    let cell = cell_in(tree, node, name, low, high)?.ok_or(fault)?;
+    let cell = cell_in(tree, node, name, range)?.ok_or(missing)?;
     Ok(cell.value as usize)
 }
 

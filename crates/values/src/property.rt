@@ -1,4 +1,5 @@
 ghost use Rattle.std.specs.Prelude.{◌≡◌, ◌≤◌};
+ghost use Rattle.std.specs.Range.{range_inclusive_end, range_inclusive_start};
 ghost use Rattle.properties.specs.Properties.{owned};
 ghost use Rattle.tree.specs.Reads.{entry_in, nodes_of};
 ghost use Rattle.values.specs.Values.{cell_in, cell_within, cells_within, found_seen, has, node_of, place_in, whole_cells, whole_seen};
@@ -7,6 +8,7 @@ use cell_list::CellList;
 use faults::fault::RouteFault;
 use faults::place::{At, Place};
 use properties::Property;
+use std::ops::RangeInclusive;
 use tree::node::Node;
 use tree::tree::Tree;
 use tree::tree::phandles::one_cell;
@@ -27,38 +29,35 @@ pub type Cells<'a> = Found<CellList<'a>>;
 // A property of strings, as its bytes.
 pub type Strings<'a> = Found<&'a [u8]>;
 
-// The first property of this name of a node, which is one cell from `low` to `high`; 8 where it is not.
+// The first property of this name of a node, which is one cell of the range; 8 where it is not. Like `cells_in` but for the reader of
+// the value: one call with that as a closure would promise by what the closure gives, longer than both.
 pub fn cell_in<'a>(
     tree: &Tree<'a>,
     node: &Node<'a>,
     name: &[u8],
-    low: u32,
-    high: u32,
+    range: RangeInclusive<u32>,
 ) -> Result<Option<Cell>, RouteFault>
-    ensures { result ≡ cell_in name.now low high (entry_in tree.now node.now) }
+    ensures { result ≡ cell_in name.now (range_inclusive_start range) (range_inclusive_end range) (entry_in tree.now node.now) }
 {
-    // A `match`, since the check does not follow `map` and then `transpose` through the cases of a property that may be there.
-    match tree.property(node, name)? {
-        None => Ok(None),
-        Some(property) => Ok(Some(cell_within(node.place, &property, low, high)?)),
-    }
+    let Some(property) = tree.property(node, name)? else {
+        return Ok(None);
+    };
+    Ok(Some(cell_within(node.place, &property, range)?))
 }
 
-// The cell of a property, from `low` to `high`; 8 where it is not one such cell.
+// The cell of a property, in the range from its start to its end; 8 where it is not one such cell. The node's place is given beside
+// the property, here and in the readers like this one, since a property is plain data and does not know its node.
 fn cell_within(
     node: Place,
     property: &Property<'_>,
-    low: u32,
-    high: u32,
+    range: RangeInclusive<u32>,
 ) -> Result<Cell, RouteFault>
-    ensures { result ≡ cell_within low high node.0 (owned property.now) }
+    ensures { result ≡ cell_within (range_inclusive_start range) (range_inclusive_end range) node.0 (owned property.now) }
 {
     let value = one_cell(node, property)?;
-    if !(low..=high).contains(&value) {
-        return Err(RouteFault::Value(At {
-            node,
-            property: property.place,
-        }));
+    // By its ends, since `contains` of a range that an iteration has used up no longer has the end.
+    if value < *range.start() || *range.end() < value {
+        return Err(RouteFault::Value(At::new(node, property.place)));
     }
     Ok(Cell {
         property: property.place,
@@ -74,11 +73,10 @@ pub fn cells_in<'a>(
 ) -> Result<Option<Cells<'a>>, RouteFault>
     ensures { found_seen result ≡ cells_within name.now (entry_in tree.now node.now) }
 {
-    // A `match`, as in `cell_in`.
-    match tree.property(node, name)? {
-        None => Ok(None),
-        Some(property) => Ok(Some(whole_cells(node.place, &property)?)),
-    }
+    let Some(property) = tree.property(node, name)? else {
+        return Ok(None);
+    };
+    Ok(Some(whole_cells(node.place, &property)?))
 }
 
 // The cells of a property; 8 where its length is no multiple of 4.
@@ -86,10 +84,7 @@ pub fn whole_cells<'a>(node: Place, property: &Property<'a>) -> Result<Cells<'a>
     ensures { whole_seen result ≡ whole_cells node.0 (owned property.now) }
 {
     if property.value.bytes.len() % 4 != 0 {
-        return Err(RouteFault::Value(At {
-            node,
-            property: property.place,
-        }));
+        return Err(RouteFault::Value(At::new(node, property.place)));
     }
     Ok(Cells {
         property: property.place,

@@ -30,7 +30,7 @@ pub struct Route<'a> {
 }
 
 // Cells that arrive at a node: the unit address that a row gave with them, none on the first arrival; the rows taken so far, and
-// how many more are allowed, eight in all.
+// how many more are allowed, eight in all. That number is kept, though the hops tell it, since the walk ends because it falls.
 #[derive(Clone, Copy, PartialEq, Eq, Debug)]
 struct Arrival<'a> {
     node: Node<'a>,
@@ -80,10 +80,7 @@ fn arrive<'a>(
     }
     match tree.property(node, b"interrupt-map")? {
         Some(map) => look_up_row(tree, specifier, arrival, &map),
-        None => Err(RouteFault::NoEnd(At {
-            node: node.place,
-            property: Place(0),
-        })),
+        None => Err(RouteFault::NoEnd(At::missing(node.place))),
     }
 }
 

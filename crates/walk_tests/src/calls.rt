@@ -1,6 +1,6 @@
 // The calls of a walk, one a line.
 use super::error::WalkError;
-use super::record::{Offer, Record};
+use super::record::{Offer, Outcome, Record};
 use super::walk::Walk;
 use controller::call::{CallFault, Change};
 use controller::interface::Controller;
@@ -55,10 +55,8 @@ impl Walk<'_> {
     ) -> Result<(), WalkError> {
         let change = change_of(word).ok_or(WalkError::UnknownWord)?;
         let line = number.parse::<usize>()?;
-        match make(controller, line, change) {
-            Ok(()) => write!(self.written, " done")?,
-            Err(fault) => write!(self.written, " refused {}", u8::from(fault))?,
-        }
+        let outcome = make(controller, line, change).map_err(|fault| u8::from(fault));
+        write!(self.written, " {}", Outcome(outcome))?;
         self.write_state(controller, line)
     }
 

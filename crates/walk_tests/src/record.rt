@@ -1,4 +1,4 @@
-// Records and offers as text.
+// Records, offers and outcomes as text.
 use controller::call::CallFault;
 use line::record::Line;
 use line::row::{Row, Sense};
@@ -36,6 +36,19 @@ impl fmt::Display for Offer {
         match self.0 {
             Some(line) => write!(f, "offer {line}"),
             None => write!(f, "offer none"),
+        }
+    }
+}
+
+// What a call came to: done, or refused with a number.
+#[derive(Drop)]
+pub struct Outcome(pub Result<(), u8>);
+
+impl fmt::Display for Outcome {
+    fn fmt<W: fmt::Write>(&self, f: &mut fmt::Formatter<W>) -> fmt::Result {
+        match self.0 {
+            Ok(()) => write!(f, "done"),
+            Err(number) => write!(f, "refused {number}"),
         }
     }
 }

@@ -1,5 +1,6 @@
 // The leaves and joins that the head of a walk names.
 use super::error::WalkError;
+use super::record::Outcome;
 use super::walk::Walk;
 use any_controller::any::AnyController;
 use cascade::pair::{Cascade, question};
@@ -75,10 +76,8 @@ impl Walk<'_> {
             None => word,
         };
         let line = number.parse::<usize>()?;
-        match question(&parent, &child, line) {
-            Ok(()) => writeln!(self.written, "join {word}: done")?,
-            Err(fault) => writeln!(self.written, "join {word}: refused {}", u8::from(fault))?,
-        }
+        let outcome = question(&parent, &child, line).map_err(|fault| u8::from(fault));
+        writeln!(self.written, "join {word}: {}", Outcome(outcome))?;
         Ok(Cascade::new(parent, child, line))
     }
 

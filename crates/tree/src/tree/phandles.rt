@@ -1,11 +1,10 @@
 ghost use Rattle.std.specs.Prelude.{◌≡◌, take};
 ghost use Rattle.properties.specs.Properties.{option_seen, owned, property_seen};
 ghost use Rattle.tree.specs.Reads.{entry_in, node_in, nodes_of};
-ghost use Rattle.tree.specs.Phandles.{is_cell, one_cell, phandle_checked, phandle_of, phandles, used, with_phandle};
+ghost use Rattle.tree.specs.Phandles.{checked, is_cell, one_cell, phandle_checked, phandle_of, phandles, used, with_phandle};
 
 use super::Tree;
 use crate::node::Node;
-use cells::cell::Block;
 use faults::fault::{RouteFault, TokenFault};
 use faults::place::{At, Place};
 use properties::Property;
@@ -14,19 +13,10 @@ use properties::Property;
 pub fn one_cell(node: Place, property: &Property<'_>) -> Result<u32, RouteFault>
     ensures { result ≡ one_cell node.0 (owned property.now) }
 {
-    let fault = RouteFault::Value(At {
-        node,
-        property: property.place,
-    });
-    if property.value.bytes.len() != 4 {
-        return Err(fault);
+    match property.value.bytes {
+        &[a, b, c, d] => Ok(u32::from_be_bytes([a, b, c, d])),
+        _ => Err(RouteFault::Value(At::new(node, property.place))),
     }
-    Block {
-        bytes: property.value.bytes,
-        end: 4,
-        past: fault,
-    }
-    .cell(0)
 }
 
 // Whether a property is there and its value is this one cell.
@@ -70,35 +60,29 @@ impl<'a> Tree<'a> {
         Ok(false)
     }
 
-    // Whether the node after the first `count` has a phandle: 8 where it is not one cell, 9 where it is 0, 0xffffffff or
-    // used by a node before.
-    fn check_phandle(&self, node: &Node<'a>, count: usize) -> Result<bool, RouteFault>
-        ensures { result ≡ phandle_checked (take count (nodes_of self.now)) (entry_in self.now node.now) }
+    // Whether the phandle of the node after the first `count`, if it has one, is good: 8 where it is not one cell, 9 where it is 0,
+    // 0xffffffff or used by a node before.
+    fn check_phandle(&self, node: &Node<'a>, count: usize) -> Result<(), RouteFault>
+        ensures { result ≡ checked (phandle_checked (take count (nodes_of self.now)) (entry_in self.now node.now)) }
     {
         let Some(property) = self.phandle(node)? else {
-            return Ok(false);
+            return Ok(());
         };
         let phandle = one_cell(node.place, &property)?;
-        let fault = RouteFault::Phandle(At {
-            node: node.place,
-            property: property.place,
-        });
         if phandle == 0 || phandle == 0xffffffff || self.is_used(phandle, count)? {
-            return Err(fault);
+            return Err(RouteFault::Phandle(At::new(node.place, property.place)));
         }
-        Ok(true)
+        Ok(())
     }
 
-    // How many nodes have a phandle; in blob order the first that is refused, 8 or 9.
-    pub(crate) fn phandles(&self) -> Result<usize, RouteFault>
-        ensures { result ≡ phandles (nodes_of self.now) }
+    // In blob order the first phandle that is refused, 8 or 9.
+    #[tactic(auto, using(crate::proofs::Taking::list_more, crate::proofs::Checking::any_count))]
+    pub(crate) fn check_phandles(&self) -> Result<(), RouteFault>
+        ensures { result ≡ checked (phandles (nodes_of self.now)) }
     {
-        let mut found = 0;
         for (count, node) in self.nodes().enumerate() {
-            if self.check_phandle(&node?, count)? {
-                found += 1;
-            }
+            self.check_phandle(&node?, count)?;
         }
-        Ok(found)
+        Ok(())
     }
 }

@@ -23,38 +23,32 @@ impl<'a> Tree<'a> {
     }
 
     // The first node from a cursor on, in blob order, at any depth.
+    #[tactic(auto, using(crate::proofs::Nexts::first_listed))]
     pub fn next_node(&self, cursor: Cursor) -> Result<Option<Node<'a>>, TokenFault>
         ensures is { node_in self.now result ≡ first_node (nodes_in self.now cursor.depth cursor.place.0) }
         ensures rest { nodes_in self.now cursor.depth cursor.place.0 ≡ listed_by (λ e. nodes_in self.now e.depth e.body) (node_in self.now result) }
         ensures goes { GoesOn self.now.blob.header cursor.place.0 result }
     {
-        let mut at = cursor;
-        // Place and depth move together, so the loop moves a cursor and is no `for` over the tokens.
-        loop {
-            let step = self.blob.token_at(at.place)?;
+        let mut depth = cursor.depth;
+        for read in self.blob.tokens(cursor.place) {
+            let (place, step) = read?;
             match step.token {
                 Token::Open(name) => {
-                    if at.depth >= 16 {
-                        return Err(TokenFault::Depth(at.place));
+                    if depth >= 16 {
+                        return Err(TokenFault::Depth(place));
                     }
                     let body = Cursor {
                         place: step.next,
-                        depth: at.depth + 1,
+                        depth: depth + 1,
                     };
-                    return Ok(Some(Node {
-                        place: at.place,
-                        name,
-                        body,
-                    }));
+                    return Ok(Some(Node { place, name, body }));
                 }
-                Token::Close => {
-                    at.depth = at.depth.checked_sub(1).ok_or(TokenFault::Rule(at.place))?;
-                }
+                Token::Close => depth = depth.checked_sub(1).ok_or(TokenFault::Rule(place))?,
                 Token::Property(_, _) | Token::Nothing => {}
                 Token::End => return Ok(None),
             }
-            at.place = step.next;
         }
+        Ok(None)
     }
 
     // The first property from a place on, of the node that the place is in.

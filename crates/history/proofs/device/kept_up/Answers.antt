@@ -3,15 +3,8 @@ use Rattle.std.proofs.lemmas.Grind.{common_steps}
 use Rattle.history.proofs.Keeping.{kept_exactly}
 use Rattle.history.proofs.device.kept_up.Goals as goal
 
-pub returns-then-not-is_in_time-clause-is : goal.returns-then-not-is_in_time-clause-is
-returns-then-not-is_in_time-clause-is c = grind (arith, common_steps)
-
 pub returns-then-not-is_in_time-clause-exactly : goal.returns-then-not-is_in_time-clause-exactly
-returns-then-not-is_in_time-clause-exactly c =
-    kept_exactly c.args.sense c.args.device c.args.events.now _ (returns-then-not-is_in_time-clause-is c)
-
-pub returns-clause-is : goal.returns-clause-is
-returns-clause-is c = grind (arith, common_steps)
+returns-then-not-is_in_time-clause-exactly c = kept_exactly c.args.sense c.args.device c.args.events.now _ (grind (arith, common_steps))
 
 pub returns-clause-exactly : goal.returns-clause-exactly
-returns-clause-exactly c = kept_exactly c.args.sense c.args.device c.args.events.now _ (returns-clause-is c)
+returns-clause-exactly c = kept_exactly c.args.sense c.args.device c.args.events.now _ (grind (arith, common_steps))

@@ -1,17 +1,18 @@
-use Rattle.std.proofs.Common.{◌≡◌, ℕ, zero, suc, ◌+◌, ◌-◌, Option, List, [], ◌∷◌, length, None, refl, sym, ap, ◌∙◌, zero-add, arith, rules}
+use Rattle.std.proofs.Common.{◌≡◌, ℕ, zero, suc, ◌+◌, ◌-◌, Option, List, [], ◌∷◌, length, refl, sym, ap, ◌∙◌, zero-add, arith, rules}
 use Rattle.std.specs.declared.ops.Range.{Range}
 use Rattle.std.specs.declared.iter.Rev.{Rev}
-use Rattle.std.specs.List.{fold}
-use Rattle.std.specs.Iterator.Adapters.{rev_source, rev_steps}
+use Rattle.std.specs.List.{filter, fold, reduce}
+use Rattle.std.specs.Iterator.Adapters.{filter_steps, rev_source, rev_steps}
 use Rattle.std.proofs.iter.runs.Sources.{nat_range_steps_back}
 use Rattle.std.proofs.lemmas.Iterator.{YieldsList}
-use Rattle.std.proofs.lemmas.Iterator.Consumers.{YieldsList-from_shown, fold_from_yields_List}
+use Rattle.std.proofs.lemmas.Iterator.Consumers.{YieldsList-from_shown, YieldsList-from_filter, YieldsList-at, reduce_from_yields_List}
 use Rattle.line.specs.declared.row.Row.{Row}
 use Rattle.controller.specs.Meaning.{at}
 use Rattle.table.specs.Kinds.{ready}
 use Rattle.table.specs.Tables.{table_lines}
 use Rattle.plic.specs.Offers.{level_of, plic_offer, preferred, top_from}
 use Rattle.plic.specs.Best.{top_end, top_step}
+use Rattle.plic.proofs.Greatest.{pick, picks, best_of}
 use Rattle.plic.proofs.chip.ByPriorityOrder.choose.Goals as goal
 
 -- the n numbers from a on, last first
@@ -54,11 +55,14 @@ returns c =
     let ls = table_lines c.args.table.now in
     let level = level_of c.args.self.now in
     let n = c.width.result in
-    let better = λ (above : Option ℕ) (i : ℕ). preferred level i (ready (at ls i)) above in
-    let e = fold_from_yields_List _ better None c.fold.result c.fold.ensures.ran (counts_down c.rev.result) (λ a x b q k. search rules) in
+    let waits = λ (i : ℕ). ready (at ls i) in
+    let better = λ (above : Option ℕ) (i : ℕ). preferred level i (waits i) above in
+    let e = reduce_from_yields_List (pick level) c.filter.result c.max_by_key.result (picks level (λ x b q k. search rules) (filter_steps (rev_steps nat_range_steps_back) _) c.filter.result c.max_by_key.result c.max_by_key.ensures.ran)
+    (YieldsList-from_filter _ waits (YieldsList-at c.filter.ensures.source (counts_down c.rev.result)) c.filter.ensures.closure (λ x b q k. search rules)) in
     let z : n - 0 ≡ n = omega arith in
     e
-    ∙ ap (λ (u : Range ℕ). fold better None (down u.start (u.end - u.start))) c.rev.ensures.source
-    ∙ ap (λ k. fold better None (down 0 k)) z
+    ∙ ap (λ (u : Range ℕ). reduce (pick level) (filter waits (down u.start (u.end - u.start)))) c.rev.ensures.source
+    ∙ ap (λ k. reduce (pick level) (filter waits (down 0 k))) z
+    ∙ best_of level waits (down 0 n)
     ∙ ap (λ a. fold better a (down 0 n)) (sym (top_end level ls n (omega arith)))
     ∙ downward level ls n

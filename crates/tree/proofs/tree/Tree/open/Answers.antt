@@ -6,8 +6,8 @@ use Rattle.tree.proofs.tree.Tree.open.Goals as goal
 pub returns-in_err-walked : goal.returns-in_err-walked
 returns-in_err-walked c = opens c.args.bytes.now (tree_seen c.from_residual.result) (search rules)
 
-pub returns-in_err-_count : goal.returns-in_err-_count
-returns-in_err-_count c = opens c.args.bytes.now (tree_seen c.from_residual-in_err-_count.result) (search rules)
+pub returns-in_err-check_phandles : goal.returns-in_err-check_phandles
+returns-in_err-check_phandles c = opens c.args.bytes.now (tree_seen c.from_residual-in_err-check_phandles.result) (search rules)
 
 pub returns : goal.returns
 returns c = opens c.args.bytes.now (Ok (blob_source c.in_ok-walked.field-0)) (search rules)

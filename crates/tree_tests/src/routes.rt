@@ -1,0 +1,42 @@
+// Where each specifier of a tree ends, as text: an item for each, in blob order.
+use crate::refused::Refused;
+use faults::report::Report;
+use listing::stop::Stop;
+use route_text::{route_end, route_text};
+use specifiers::list::specifiers;
+use std::alloc::{AllocError, Global};
+use std::fmt::Write;
+use tree::node::Node;
+use tree::tree::Tree;
+
+// `routes`, then the items with `, ` between them.
+pub fn routes(heap: Global, bytes: &[u8]) -> Result<String, Stop> {
+    let tree = Tree::open(bytes)?;
+    let mut out = String::from_str(heap, "routes")?;
+    for node in tree.nodes() {
+        add_items(heap, &tree, &node?, &mut out)?;
+    }
+    Ok(out)
+}
+
+// The items of a node's specifiers.
+fn add_items<'a>(
+    heap: Global,
+    tree: &Tree<'a>,
+    node: &Node<'a>,
+    out: &mut String,
+) -> Result<(), AllocError> {
+    // `zip`, since `enumerate` asks for a bound on how many there are.
+    for (index, specifier) in (0usize..).zip(specifiers(tree, node)) {
+        let between = if out.as_str() == "routes" { " " } else { ", " };
+        let end = match route_end(tree, specifier) {
+            Ok(route) => route_text(heap, &route)?,
+            Err(fault) => {
+                let refused = Refused(Report::from(fault));
+                format!(in heap; " {refused}")?
+            }
+        };
+        write!(out, "{between}{}:{index}{end}", node.place)?;
+    }
+    Ok(())
+}
