@@ -1,6 +1,6 @@
 /*
- * The other reader: lists the nodes and the interrupts of flattened devicetrees,
- * on libfdt alone.
+ * The other reader: lists the nodes, the interrupts and the board of flattened
+ * devicetrees, on libfdt alone.
  *
  * The text that the gate expects of our own program is written by this one,
  * and never by our own program. So nothing here looks at a token: nodes,
@@ -15,6 +15,12 @@
  *     refused NODE INDEX layer L, number N, node P, property Q
  * (`via` and its list only where a nexus is passed), and after the last one:
  *     routes: N, refused: M
+ * Then the board: for each controller one of the first two lines, for each route
+ * the third; or, where the board is refused, the last alone.
+ *     controller N KIND width W at PLACE lines B to E root
+ *     controller N KIND width W at PLACE lines B to E cascaded at line K
+ *     device N node P specifier I controller C input X line L sense S PATH
+ *     board refused: layer L, number N, node P, property Q
  * With more than one file, a line FILE: comes before each listing. After the word
  * --nodes only the nodes and how much there is are listed.
  *
@@ -136,8 +142,10 @@ int main(int count, char **words)
 			printf("%s:\n", files[i]);
 		check_phandles(&blob);
 		list_nodes(&blob);
-		if (!nodes_only)
+		if (!nodes_only) {
 			list_routes(&blob);
+			list_board(&blob);
+		}
 		free(blob.bytes);
 	}
 	return 0;

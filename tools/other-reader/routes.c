@@ -9,62 +9,14 @@
 #include "routes.h"
 
 #include <libfdt.h>
-#include <stdbool.h>
-#include <stdint.h>
 #include <stdio.h>
 #include <string.h>
 
 #define NO_NODE (-1)
 
-#define MOST_CELLS 4		/* of a unit address, and of a specifier */
-#define MOST_ROWS 8		/* taken in one walk */
 #define MOST_CANDIDATES 64	/* looked at for one interrupt parent */
 
-/* The numbers of docs/REFUSALS.md. */
-enum {
-	VALUE = 8,
-	NO_PHANDLE = 12,
-	NO_PARENT = 13,
-	SHORT = 14,
-	NO_END = 15,
-	ROW = 16,
-	NO_ROW = 17,
-	NINTH_ROW = 18
-};
-
-struct fault {
-	int number;
-	int node;	/* place */
-	int property;	/* place */
-};
-
-struct property {
-	int place;
-	const char *value;
-	int length;
-};
-
-/* Cells of a property's value, most significant byte first. */
-struct cells {
-	const char *first;
-	int count;
-};
-
-struct passed {
-	int nexus;
-	int row;
-};
-
-struct walk {
-	int device;
-	int passed;
-	struct passed by[MOST_ROWS];
-	int controller;
-	struct cells specifier;
-};
-
-/* Sets the fault; false, so that a step can answer with it. */
-static bool refuse(struct fault *fault, int number, int node_place, int property_place)
+bool refuse(struct fault *fault, int number, int node_place, int property_place)
 {
 	fault->number = number;
 	fault->node = node_place;
@@ -74,8 +26,7 @@ static bool refuse(struct fault *fault, int number, int node_place, int property
 
 /* ---- properties ---- */
 
-/* The first property of a name. */
-static struct property find(const struct blob *blob, int node, const char *name)
+struct property find(const struct blob *blob, int node, const char *name)
 {
 	struct property found = { 0, NULL, 0 };
 	int at;
@@ -99,7 +50,7 @@ static struct property find(const struct blob *blob, int node, const char *name)
 	return found;
 }
 
-static uint32_t cell(struct cells cells, int index)
+uint32_t cell(struct cells cells, int index)
 {
 	const unsigned char *byte = (const unsigned char *)cells.first + 4 * index;
 
@@ -114,9 +65,8 @@ static struct cells part(struct cells cells, int index, int count)
 	return some;
 }
 
-/* The cells of a property that has to be whole cells. */
-static bool whole(const struct blob *blob, int node, struct property property, struct cells *cells,
-		  struct fault *fault)
+bool whole(const struct blob *blob, int node, struct property property, struct cells *cells,
+	   struct fault *fault)
 {
 	if (property.length % 4)
 		return refuse(fault, VALUE, place(blob, node), property.place);
@@ -392,61 +342,40 @@ static bool walk_on(const struct blob *blob, struct walk *walk, int node, struct
 	}
 }
 
-/* ---- the listing ---- */
+/* ---- the specifiers of a tree ---- */
 
-struct counts {
-	int routes;
-	int refused;
-};
-
-static void print_refusal(const struct blob *blob, int device, int index, struct fault fault,
-			  struct counts *counts)
-{
-	printf("refused %d %d layer 3, number %d, node %d, property %d\n", place(blob, device),
-	       index, fault.number, fault.node, fault.property);
-	counts->refused++;
-}
-
-static void list_specifier(const struct blob *blob, int device, int index, int node,
-			   struct cells specifier, struct counts *counts)
+/* One specifier that is cut, from its first arrival. */
+static void walk_one(const struct blob *blob, struct taker taker, int device, struct property property,
+		     int index, int node, struct cells specifier)
 {
 	struct walk walk = { .device = device };
 	struct fault fault;
-	int i;
 
-	if (!walk_on(blob, &walk, node, specifier, &fault)) {
-		print_refusal(blob, device, index, fault, counts);
-		return;
-	}
-	printf("route %d %d", place(blob, device), index);
-	for (i = 0; i < walk.passed; i++)
-		printf("%s %d:%d", i ? "" : " via", place(blob, walk.by[i].nexus), walk.by[i].row);
-	printf(" ends %d cells", place(blob, walk.controller));
-	for (i = 0; i < walk.specifier.count; i++)
-		printf(" %lu", (unsigned long)cell(walk.specifier, i));
-	printf(" %s\n", path_of(blob, device));
-	counts->routes++;
+	if (walk_on(blob, &walk, node, specifier, &fault))
+		taker.route(blob, taker.state, index, property, &walk);
+	else
+		taker.refusal(blob, taker.state, device, index, &fault);
 }
 
 /* The specifiers of `interrupts`: one interrupt parent for all. */
-static void list_interrupts(const struct blob *blob, int device, struct property property,
-			    struct cells cells, struct counts *counts)
+static void each_of_interrupts(const struct blob *blob, struct taker taker, int device,
+			       struct property property, struct cells cells)
 {
 	struct fault fault;
 	int parent, each, at, index;
 
 	if (!interrupt_parent(blob, device, &parent, &fault) ||
 	    !interrupt_cells(blob, parent, &each, &fault)) {
-		print_refusal(blob, device, 0, fault, counts);
+		taker.refusal(blob, taker.state, device, 0, &fault);
 		return;
 	}
 	for (at = 0, index = 0; at < cells.count; at += each, index++) {
 		if (cells.count - at < each) {
 			refuse(&fault, SHORT, place(blob, device), property.place);
-			print_refusal(blob, device, index, fault, counts);
+			taker.refusal(blob, taker.state, device, index, &fault);
 			return;
 		}
-		list_specifier(blob, device, index, parent, part(cells, at, each), counts);
+		walk_one(blob, taker, device, property, index, parent, part(cells, at, each));
 	}
 }
 
@@ -461,28 +390,28 @@ static bool named_node(const struct blob *blob, int device, struct property prop
 }
 
 /* The specifiers of `interrupts-extended`: a phandle before each. */
-static void list_extended(const struct blob *blob, int device, struct property property,
-			  struct cells cells, struct counts *counts)
+static void each_of_extended(const struct blob *blob, struct taker taker, int device,
+			     struct property property, struct cells cells)
 {
 	struct fault fault;
 	int node, each, at, index;
 
 	for (at = 0, index = 0; at < cells.count; at += each, index++) {
 		if (!named_node(blob, device, property, cell(cells, at), &node, &each, &fault)) {
-			print_refusal(blob, device, index, fault, counts);
+			taker.refusal(blob, taker.state, device, index, &fault);
 			return;
 		}
 		at++;
 		if (cells.count - at < each) {
 			refuse(&fault, SHORT, place(blob, device), property.place);
-			print_refusal(blob, device, index, fault, counts);
+			taker.refusal(blob, taker.state, device, index, &fault);
 			return;
 		}
-		list_specifier(blob, device, index, node, part(cells, at, each), counts);
+		walk_one(blob, taker, device, property, index, node, part(cells, at, each));
 	}
 }
 
-static void list_device(const struct blob *blob, int device, struct counts *counts)
+static void each_of_device(const struct blob *blob, struct taker taker, int device)
 {
 	struct property property = find(blob, device, "interrupts-extended");
 	bool extended = property.place;
@@ -494,19 +423,60 @@ static void list_device(const struct blob *blob, int device, struct counts *coun
 	if (!property.place || property.length == 0)
 		return;
 	if (!whole(blob, device, property, &cells, &fault))
-		print_refusal(blob, device, 0, fault, counts);
+		taker.refusal(blob, taker.state, device, 0, &fault);
 	else if (extended)
-		list_extended(blob, device, property, cells, counts);
+		each_of_extended(blob, taker, device, property, cells);
 	else
-		list_interrupts(blob, device, property, cells, counts);
+		each_of_interrupts(blob, taker, device, property, cells);
+}
+
+void each_specifier(const struct blob *blob, struct taker taker)
+{
+	int node;
+
+	for (node = next_node(blob, -1); node >= 0; node = next_node(blob, node))
+		each_of_device(blob, taker, node);
+}
+
+/* ---- the listing ---- */
+
+struct counts {
+	int routes;
+	int refused;
+};
+
+static void print_refusal(const struct blob *blob, void *state, int device, int index,
+			  const struct fault *fault)
+{
+	struct counts *counts = state;
+
+	printf("refused %d %d layer 3, number %d, node %d, property %d\n", place(blob, device),
+	       index, fault->number, fault->node, fault->property);
+	counts->refused++;
+}
+
+static void print_route(const struct blob *blob, void *state, int index, struct property property,
+			const struct walk *walk)
+{
+	struct counts *counts = state;
+	int i;
+
+	(void)property;
+	printf("route %d %d", place(blob, walk->device), index);
+	for (i = 0; i < walk->passed; i++)
+		printf("%s %d:%d", i ? "" : " via", place(blob, walk->by[i].nexus), walk->by[i].row);
+	printf(" ends %d cells", place(blob, walk->controller));
+	for (i = 0; i < walk->specifier.count; i++)
+		printf(" %lu", (unsigned long)cell(walk->specifier, i));
+	printf(" %s\n", path_of(blob, walk->device));
+	counts->routes++;
 }
 
 void list_routes(const struct blob *blob)
 {
 	struct counts counts = { 0, 0 };
-	int node;
+	struct taker taker = { &counts, print_route, print_refusal };
 
-	for (node = next_node(blob, -1); node >= 0; node = next_node(blob, node))
-		list_device(blob, node, &counts);
+	each_specifier(blob, taker);
 	printf("routes: %d, refused: %d\n", counts.routes, counts.refused);
 }

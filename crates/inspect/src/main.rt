@@ -1,9 +1,10 @@
-//! Prints what is in the devicetree blobs that the arguments name: the nodes in blob order, how much there is, and where
-//! each interrupt ends; or the refusal. A thin program over the crates `tree`, `specifiers` and `routing`.
+//! Prints what is in the devicetree blobs that the arguments name: the nodes in blob order, how much there is, where each
+//! interrupt ends, and the board that the tree makes; or the refusal. A thin program over `tree`, `specifiers`, `routing` and `plan`.
 #![tactic(auto)]
 
 use std::io;
 
+mod board_lines;
 mod files;
 mod node_lines;
 mod routes;

@@ -1,4 +1,5 @@
 // The listing of one blob, as bytes: names are printed byte for byte.
+use crate::board_lines::list_board;
 use crate::routes::list_routes;
 use listing::path::Path;
 use listing::stop::Stop;
@@ -59,11 +60,12 @@ fn all_nodes<'a>(heap: Global, tree: &Tree<'a>) -> Result<Vec<u8>, Stop> {
     Ok(out)
 }
 
-// What is in a blob that opens: its nodes, then its routes.
+// What is in a blob that opens: its nodes, its routes, and the board.
 fn tree_lines(heap: Global, bytes: &[u8]) -> Result<Vec<u8>, Stop> {
     let tree = Tree::open(bytes)?;
     let mut out = all_nodes(heap, &tree)?;
     out.extend_from_slice(list_routes(heap, &tree)?.as_slice())?;
+    out.extend_from_slice(list_board(heap, &tree)?.as_slice())?;
     Ok(out)
 }
 

@@ -1,0 +1,9 @@
+mod Finding
+mod Maps
+mod Drawing
+mod Steps
+pub mod Facts
+pub mod Keeping
+pub mod PlanLines
+pub mod Seats
+pub mod Ruling
