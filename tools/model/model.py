@@ -127,6 +127,22 @@ class StatusMux(Kind):
         return min(self.waiting(), default=None)
 
 
+class HighestFirst(Kind):
+    """A kind of another make: eight lines of one sense, line 5 wired inside, and the highest waiting line, whatever is in service."""
+
+    def __init__(self, sense):
+        super().__init__(8, sense)
+
+    def line(self, i):
+        line = super().line(i)
+        if i == 5:
+            raise Refused(31)
+        return line
+
+    def offer(self):
+        return max((i for i in self.waiting() if i != 5), default=None)
+
+
 def question(parent, child, wired):
     """Why the child cannot be wired to that line of the parent, or none."""
     try:

@@ -7,6 +7,7 @@ says whether those stored there differ. No chance is involved: the text is alway
 
 import os
 import sys
+from itertools import permutations, product
 
 # Bytes of the last property of near-limit.dts: chosen so that its blob has 65,535 bytes.
 PAD = 6250
@@ -518,6 +519,163 @@ def panel_soc():
                      "Heron H5 panel", (0,), 2, 2, 5, 6, 7, 6, 3, 2)
 
 
+# The kinds by their letters in the name of an ordered tree, and its controllers' labels in placing order.
+KINDS = {"8": "8259A", "p": "PLIC", "m": "mux"}
+LABELS = ["first", "second", "third", "fourth"]
+
+# Under which one placed before each controller but the root is cascaded, by how many controllers there are.
+SHAPES = {
+    1: [[]],
+    2: [[0]],
+    3: [[0, 1], [0, 0]],
+    4: [[0, 1, 2], [0, 0, 0], [0, 1, 1], [0, 0, 1], [0, 1, 0], [0, 0, 2]],
+}
+
+# A device's name is chosen by its sense, so that ordered trees share paths.
+NAMES = {
+    "edge": ["encoder", "press", "spindle-clock", "cutter"],
+    "following": ["guard-door", "lamp", "light-curtain", "coolant"],
+    "gated": ["serial", "scale", "camera", "printer"],
+}
+
+
+def placing(blob, parents):
+    """The controllers in placing order, where `blob` has them in blob order: each time the first whose parent is placed."""
+    placed = [0]
+    while len(placed) < len(blob):
+        placed.append(next(c for c in blob if c not in placed and parents[c - 1] in placed))
+    return placed
+
+
+class Ordered:
+    """A small tree whose controllers have these kinds in placing order. All else varies with n, the number of the order
+    among those of as many controllers, and with the sum of the kinds' own numbers."""
+
+    def __init__(self, letters, n):
+        self.letters, self.n = letters, n
+        self.sum = sum(map(list(KINDS).index, letters))
+        self.count = len(letters)
+        self.places = range(self.count)
+        self.parents = SHAPES[self.count][n // 2 % len(SHAPES[self.count])]
+        self.blob = self.blob_order()
+        self.widths = [self.width(c) for c in self.places]
+        self.free = [self.inputs(c) for c in self.places]
+        self.wired = [self.specifier(parent, (n + k) % 4) for k, parent in enumerate(self.parents)]
+        self.edges = False
+        self.devices = self.all_devices()
+
+    def blob_order(self):
+        """The placing order in every other tree; in the rest another one that leads to the same placing."""
+        own = tuple(self.places)
+        others = [blob for blob in permutations(own) if blob != own and placing(blob, self.parents) == list(own)]
+        return others[self.n // 2 % len(others)] if others and self.n % 2 == 0 else own
+
+    def width(self, c):
+        """A line for each controller below and none to two more; two to four lines for one with none below."""
+        below = self.parents.count(c)
+        return 8 if self.letters[c] == "8" else (below or 2) + (self.sum + 2 * c + 1) % 3
+
+    def inputs(self, c):
+        """All inputs of a controller, from one in the middle on."""
+        first = (self.n + c) % self.widths[c]
+        return [*range(first, self.widths[c]), *range(first)]
+
+    def specifier(self, c, sense=0):
+        """A free input of a controller and the sense cell, which an 8259A has."""
+        return c, self.free[c].pop(0), sense
+
+    def device_specifier(self, c):
+        """On 8259As every other one is edge, the first of them too."""
+        if self.letters[c] == "8":
+            self.edges = not self.edges
+        return self.specifier(c, 2 * self.edges + self.n % 2)
+
+    def numbers(self, specifier):
+        c, at, sense = specifier
+        return {"8": [at, sense], "p": [at + 1], "m": [at]}[self.letters[c]]
+
+    def sense(self, specifier):
+        c, _, sense = specifier
+        return {"8": "edge" if sense > 1 else "following", "p": "gated", "m": "following"}[self.letters[c]]
+
+    def all_devices(self):
+        """Two to four devices, by name: on the root first, then from the last controller back, where lines are free; in
+        half of the trees the second one has two specifiers."""
+        turns = [0, *reversed(self.places[1:])] * 4
+        turns = [c for k, c in enumerate(turns) if turns[:k].count(c) < len(self.free[c])]
+        wanted = 3 + self.sum % 2 if self.count == 4 else 2 + self.sum % 3
+        twice = 1 if self.sum % 4 < 2 else None
+        devices = {}
+        for k in range(min(wanted, len(turns))):
+            found = [self.device_specifier(turns.pop(0))]
+            if k == twice and len(turns) >= wanted - k:
+                found.append(self.device_specifier(turns.pop(0)))
+            name = next(name for name in NAMES[self.sense(found[0])] if name not in devices)
+            devices[name] = found
+        return devices
+
+    def comment(self):
+        words = [KINDS[self.letters[0]]]
+        words += ["%s under the %s" % (KINDS[self.letters[c]], LABELS[self.parents[c - 1]]) for c in self.places[1:]]
+        placed = ", ".join(str(self.blob.index(c)) for c in self.places)
+        return "Every order of kinds: %s; placed %s %s." % (", ".join(words), "are" if self.parents else "is", placed)
+
+    def put_controller(self, w, c):
+        w.put("")
+        w.open("%s: %s" % (LABELS[c], LABELS[c]))
+        kind = self.letters[c]
+        w.put('compatible = "%s";' % {"8": "intel,i8259", "p": "sifive,plic-1.0.0", "m": "factory,status-mux"}[kind])
+        w.put("interrupt-controller;")
+        w.put("#interrupt-cells = <%d>;" % (2 if kind == "8" else 1))
+        if kind == "p":
+            w.put("riscv,ndev = <%d>;" % self.widths[c])
+            if (self.n + c) % 2:
+                given = [1 + (3 * i + self.n + c) % 7 for i in range(self.widths[c])]
+                w.put("factory,priorities = %s;" % cells(*given))
+        if kind == "m":
+            w.put("factory,inputs = <%d>;" % self.widths[c])
+        if c > 0:
+            w.put("interrupts-extended = %s;" % self.extended(self.wired[c - 1]))
+        w.close()
+
+    def extended(self, specifier):
+        return cells("&" + LABELS[specifier[0]], *self.numbers(specifier))
+
+    def put_device(self, w, name):
+        w.put("")
+        w.open(name)
+        specifiers = self.devices[name]
+        owners = {c for c, _, _ in specifiers}
+        if len(owners) == 1:
+            w.put("interrupt-parent = <&%s>;" % LABELS[owners.pop()])
+            w.put("interrupts = %s;" % ", ".join(cells(*self.numbers(one)) for one in specifiers))
+        else:
+            w.put("interrupts-extended = %s;" % ", ".join(self.extended(one) for one in specifiers))
+        w.close()
+
+    def text(self):
+        w = Writer(self.comment())
+        w.open("/")
+        w.put('compatible = "factory,order-%s";' % self.letters)
+        for c in self.blob:
+            self.put_controller(w, c)
+        names = list(self.devices)
+        for name in names if self.n % 4 < 2 else reversed(names):
+            self.put_device(w, name)
+        w.close()
+        return w.text()
+
+
+def ordered():
+    """The trees of every order of one to four kinds, by file name."""
+    trees = {}
+    for count in range(1, 5):
+        for n, letters in enumerate(product(KINDS, repeat=count)):
+            order = "".join(letters)
+            trees["order-%s.dts" % order] = Ordered(order, n).text
+    return trees
+
+
 TREES = {
     "candidates.dts": candidates,
     "full-board.dts": full_board,
@@ -526,6 +684,7 @@ TREES = {
     "panel-soc.dts": panel_soc,
     "server-soc.dts": server_soc,
     "wide-map.dts": wide_map,
+    **ordered(),
 }
 
 

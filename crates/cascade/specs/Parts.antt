@@ -28,3 +28,7 @@ module _ {P C : Type 0} (p : Ghosts P) (c : Ghosts C) where
     pub held : o' ≡ made_wired (p.meaning x').lines (c.meaning y').lines o
     pub lines : p.sound x → c.sound y → (parts_meaning x' y' o').lines ≡ made_lines (p.meaning x).lines (c.meaning y).lines o
     pub wired : p.sound x → c.sound y → o' ≡ made_wired (p.meaning x).lines (c.meaning y).lines o
+
+  -- a cascade made of a parent x and a child y, to be wired at o
+  abbrev pub MadeOf : P → C → Option ℕ → Cascade P C → Type 0
+  MadeOf x y o z = Made x y o z.parent z.child z.wired

@@ -2,7 +2,7 @@ ghost use Rattle.std.specs.Prelude.{◌≡◌, length, Some};
 ghost use Rattle.controller.specs.Calls.{outcome};
 ghost use Rattle.controller.specs.Meaning.{all_reset};
 ghost use Rattle.cascade.specs.Pairs.{Linked, Released, Settled};
-ghost use Rattle.cascade.specs.Parts.{Made, pair_meaning, PairSound};
+ghost use Rattle.cascade.specs.Parts.{Made, MadeOf, pair_meaning, PairSound};
 ghost use Rattle.cascade.specs.Sides.{side_of};
 ghost use Rattle.cascade.specs.Questions.{question_of};
 ghost use Rattle.cascade.specs.Pairing.{pair_lawful};
@@ -75,12 +75,19 @@ impl<P: Controller, C: Controller> Cascade<P, C> {
     // The pair with the child at a line of the parent; the parent alone where the question has a refusal. Either way
     // it is reset.
     pub fn new(parent: P, child: C, line: usize) -> Cascade<P, C>
-        ensures { Made P.Controller C.Controller parent child (Some line) result.parent result.child result.wired }
+        ensures { MadeOf P.Controller C.Controller parent child (Some line) result }
+    {
+        Cascade::at(parent, child, Some(line))
+    }
+
+    // The pair with the child at a line of the parent, as `new` makes it; the parent alone where there is no line.
+    pub fn at(parent: P, child: C, line: Option<usize>) -> Cascade<P, C>
+        ensures { MadeOf P.Controller C.Controller parent child line result }
     {
         let mut cascade = Cascade {
             parent,
             child,
-            wired: Some(line),
+            wired: line,
         };
         cascade.reset();
         cascade

@@ -61,7 +61,7 @@ impl Event {
     }
 
     // The step that the event is for a device: an accepted call of the device, or a claim that named it.
-    fn own_step(self, device: usize) -> Option<Step>
+    pub fn own_step(self, device: usize) -> Option<Step>
         ensures { result ≡ step_of device self }
     {
         let accepted = self.answer.is_accepted();

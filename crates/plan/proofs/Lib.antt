@@ -2,6 +2,8 @@ mod Finding
 mod Maps
 mod Drawing
 mod Steps
+pub mod Elements
+pub mod KindWidths
 pub mod Facts
 pub mod Keeping
 pub mod PlanLines

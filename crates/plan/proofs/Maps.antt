@@ -1,9 +1,7 @@
 -- What is found in a table, by what its records are seen as.
-use Rattle.std.proofs.Common.{◌≡◌, ℕ, Bool, List, [], ◌∷◌, map, Some, None, refl, ap, ◌∙◌}
+use Rattle.std.proofs.Common.{◌≡◌, ℕ, Bool, List, [], ◌∷◌, map, Some, refl, ap}
 use Rattle.std.specs.Prelude.{◌&&◌, ◌==◌, ◌||◌, is_some, slice_get, slice_set}
 use Rattle.std.specs.List.{list_any}
-use Rattle.std.proofs.lemmas.List.{map-set}
-use Rattle.std.proofs.lemmas.Option.{slice_get-map}
 use Rattle.search.specs.First.{first}
 use Rattle.search.proofs.Positions.{first_map}
 use Rattle.plan.specs.declared.placed.Controller.{Controller}
@@ -13,6 +11,7 @@ use Rattle.plan.specs.Controllers.{made, same_spot}
 use Rattle.plan.specs.Drafts.{cascaded, controller_at, routed_to, with_parent}
 use Rattle.plan.specs.Placings.{lined}
 use Rattle.plan.specs.Seen.{routed}
+use Rattle.plan.proofs.Elements.{mapped, mapped_set}
 
 pub made_found : (place : ℕ) (xs : List Controller) → first (λ c. c.node.0 == place) xs ≡ controller_at place (map made xs)
 made_found place xs = first_map made (λ c. c.node == place) xs
@@ -26,11 +25,8 @@ any_map v p (x ∷ xs) = ap (λ b. p (v x) || b) (any_map v p xs)
 
 pub made_cascaded : (k : ℕ) (spot : Spot) (xs : List Controller) (c d : Controller) → slice_get xs k ≡ Some c → made d ≡ with_parent spot (made c)
     → map made (slice_set xs k d) ≡ cascaded k spot (map made xs)
-made_cascaded k spot xs c d h e =
-    let g : slice_get (map made xs) k ≡ Some (made c) = slice_get-map made xs k ∙ ap (λ o. elim o [ None ↦ None | Some x ↦ Some (made x) ]) h in
-    rw g (map-set made xs k d ∙ ap (slice_set (map made xs) k) e)
+made_cascaded k spot xs c d h e = rw (mapped made xs k c h) (mapped_set made xs k d (with_parent spot (made c)) e)
 
 pub made_lined : (k line : ℕ) (xs : List Controller) (c d : Controller) → slice_get xs k ≡ Some c → made d ≡ lined line (made c)
     → (slice_get (map made xs) k ≡ Some (made c)) × (map made (slice_set xs k d) ≡ slice_set (map made xs) k (lined line (made c)))
-made_lined k line xs c d h e =
-    (slice_get-map made xs k ∙ ap (λ o. elim o [ None ↦ None | Some x ↦ Some (made x) ]) h, map-set made xs k d ∙ ap (slice_set (map made xs) k) e)
+made_lined k line xs c d h e = (mapped made xs k c h, mapped_set made xs k d (lined line (made c)) e)

@@ -1,8 +1,7 @@
 -- From the seats of all controllers to the rules of a plan.
-use Rattle.std.proofs.Common.{◌≡◌, ℕ, ◌+◌, ◌<◌, true, List, [], ◌∷◌, ◌++◌, Some, None, Option, refl, sym, ap, ◌∙◌, arith}
-use Rattle.std.specs.Prelude.{slice_get, option_map}
+use Rattle.std.proofs.Common.{◌≡◌, ℕ, ◌+◌, ◌*◌, ◌<◌, ◌≤◌, true, List, [], ◌∷◌, ◌++◌, length, Some, None, Option, refl, sym, ap, ◌∙◌, length-append, arith}
+use Rattle.std.specs.Prelude.{slice_get}
 use Rattle.std.proofs.lemmas.Bool.Decides.{nat_tests}
-use Rattle.std.proofs.lemmas.Option.{slice_get-map}
 use Rattle.kinds.specs.Kinds.{Sort, width_of}
 use Rattle.plan.specs.declared.placed.Parent.{Parent}
 use Rattle.plan.specs.declared.placed.Parent.TheVariants.{At}
@@ -10,32 +9,8 @@ use Rattle.plan.specs.declared.placed.Spot.{Spot}
 use Rattle.plan.specs.Controllers.{Made, same_spot}
 use Rattle.plan.specs.Plans.{Planned, line_by, line_from, line_of}
 use Rattle.plan.specs.Rules.{widths, width_by, Lies, Stands, first, cascaded}
-use Rattle.plan.proofs.Facts.{kinds, Fits, Follows, Seat, root, under}
-
--- each controller has a seat
-abbrev pub Seats : Planned → Type 0
-Seats p = (k : ℕ) (c : Made) → slice_get p.controllers k ≡ Some c → Seat p.controllers p.order k c
-
-lies_by : (p : Planned) (s : Spot) (kind : Sort) (o : Option Made) → Seats p → slice_get p.controllers s.controller ≡ o → option_map (λ c. c.kind) o ≡ Some kind
-    → s.input < width_of kind → Lies p s
-lies_by p s kind None seats e h i = absurd (let f : None ≡ Some kind = h in cc)
-lies_by p s kind (Some c) seats e h i =
-    let seat = seats s.controller c e in
-    let q : c.kind ≡ kind = cc in
-    record {
-      controller = c;
-      before = seat.before;
-      rest = seat.rest;
-      there = e;
-      order = seat.order;
-      input = rw q i;
-      line = ap (line_by s) e ∙ ap (line_from s) seat.line;
-    }
-
--- an input of a controller that has a seat lies by the widths placed before it
-pub lies : (p : Planned) (s : Spot) → ((k : ℕ) (c : Made) → slice_get p.controllers k ≡ Some c → Seat p.controllers p.order k c) → Fits (kinds p.controllers) s → Lies p s
-lies p s seats fits =
-    lies_by p s fits.kind (slice_get p.controllers s.controller) seats refl (sym (slice_get-map (λ c. c.kind) p.controllers s.controller) ∙ fits.there) fits.input
+use Rattle.plan.proofs.Elements.{mapped, mapped_from}
+use Rattle.plan.proofs.Facts.{kinds, Few, Fits, Follows, Seat, root, under}
 
 -- where two fronts of one list, each with the element behind it, meet
 data Meets (xs ys : List ℕ) (k j : ℕ) : Type 0 where
@@ -59,6 +34,53 @@ meets (x ∷ xs) (y ∷ ys) us vs k j e =
 pub widths-append : (cs : List Made) (xs ys : List ℕ) → widths cs (xs ++ ys) ≡ widths cs xs + widths cs ys
 widths-append cs [] ys = omega arith
 widths-append cs (x ∷ xs) ys = omega (arith, widths-append cs xs ys)
+
+-- controllers of at most 64 lines each have together at most 64 times their number
+pub widths_few : (cs : List Made) (few : Few (kinds cs)) (ks : List ℕ) → widths cs ks ≤ 64 * length ks
+widths_few cs few [] = omega arith
+widths_few cs few (k ∷ ks) = widths_few_by (slice_get cs k) refl (widths_few cs few ks)
+  where
+    widths_few_by : (o : Option Made) → slice_get cs k ≡ o → widths cs ks ≤ 64 * length ks → widths cs (k ∷ ks) ≤ 64 * length (k ∷ ks)
+    widths_few_by None e ih = let w : width_by (slice_get cs k) ≡ 0 = ap width_by e in omega arith
+    widths_few_by (Some c) e ih =
+        let w : width_by (slice_get cs k) ≡ width_of c.kind = ap width_by e in
+        let n = few.widths k c.kind (mapped (λ (c : Made). c.kind) cs k c e) in
+        omega arith
+
+-- a line of one of at most four controllers is below 256
+low : (cs : List Made) (order before rest : List ℕ) (k i : ℕ) (kind : Sort) → Few (kinds cs) → length order ≤ 4 → order ≡ before ++ (k ∷ rest) → slice_get (kinds cs) k ≡ Some kind
+    → i < width_of kind → widths cs before + i < 256
+low cs order before rest k i kind few n e h l =
+    let w = few.widths k kind h in
+    let v = widths_few cs few before in
+    let a = ap length e in
+    let b = length-append before (k ∷ rest) in
+    omega arith
+
+-- a plan of at most four controllers, each with a seat
+pub record Small (p : Planned) : Type 0 where
+  pub seats : (k : ℕ) (c : Made) → slice_get p.controllers k ≡ Some c → Seat p.controllers p.order k c
+  pub few : Few (kinds p.controllers)
+  pub order : length p.order ≤ 4
+
+module _ (p : Planned) (laid : Small p) (s : Spot) (fits : Fits (kinds p.controllers) s) where
+  lies_at : (c : Made) → slice_get p.controllers s.controller ≡ Some c → c.kind ≡ fits.kind → Lies p s
+  lies_at c e q =
+      let seat = laid.seats s.controller c e in
+      record {
+        controller = c;
+        before = seat.before;
+        rest = seat.rest;
+        there = e;
+        order = seat.order;
+        input = rw q fits.input;
+        line = ap (line_by s) e ∙ ap (line_from s) seat.line;
+        low = low p.controllers p.order seat.before seat.rest s.controller s.input fits.kind laid.few laid.order seat.order fits.there fits.input;
+      }
+
+  -- an input of a controller that has a seat lies by the widths placed before it
+  pub lies : Lies p s
+  lies = let c = mapped_from (λ (c : Made). c.kind) p.controllers s.controller fits.kind fits.there in lies_at c.0 c.1 c.2
 
 -- an input of a controller is below all that is placed behind that controller
 below : (cs : List Made) (xs ys m : List ℕ) (k : ℕ) (c : Made) → slice_get cs k ≡ Some c → ys ≡ xs ++ (k ∷ m) → widths cs xs + width_of c.kind + widths cs m ≡ widths cs ys

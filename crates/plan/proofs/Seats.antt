@@ -1,12 +1,11 @@
 -- Controllers are placed one by one, and each has a seat once it is placed.
-use Rattle.std.proofs.Common.{◌≡◌, ℕ, zero, suc, ◌+◌, ◌≤◌, Bool, true, false, cond, not, ◌⊎◌, List, [], ◌∷◌, ◌++◌, length, get_or, map, Some, None, Ok, Err, Option, Result, refl, sym, ap, ◌∙◌, inl, inr, append_assoc, arith}
+use Rattle.std.proofs.Common.{◌≡◌, ℕ, zero, suc, ◌+◌, ◌≤◌, Bool, true, false, cond, not, ◌⊎◌, List, [], ◌∷◌, ◌++◌, length, get_or, map, Some, None, Ok, Err, Option, Result, refl, sym, ap, subst, ◌∙◌, inl, inr, append_assoc, length-append, arith}
 use Rattle.std.specs.Prelude.{◌&&◌, ◌==◌, is_some, slice_get, slice_set}
 use Rattle.std.specs.List.{Contains, count_by}
-use Rattle.std.proofs.Math.Seq.{map-set_same}
 use Rattle.std.proofs.lemmas.Bool.Decides.{nat_tests}
 use Rattle.std.proofs.lemmas.List.Elements.{Contains-append_right}
 use Rattle.std.proofs.lemmas.List.Sums.{count_by-le-length, count_by_more_yes, sum_by-set, sum_by-take-drop}
-use Rattle.std.proofs.lemmas.Option.{get_or_from_slice_get, slice_get_within}
+use Rattle.std.proofs.lemmas.Option.{get_or_from_slice_get, none-some, same_Some, slice_get_within}
 use Rattle.search.proofs.Firsts.{first_fit}
 use Rattle.fdt.specs.Tokens.{after}
 use Rattle.board_faults.specs.declared.BoardFault.{BoardFault}
@@ -18,7 +17,8 @@ use Rattle.plan.specs.declared.placed.Spot.{Spot}
 use Rattle.plan.specs.Controllers.{Made}
 use Rattle.plan.specs.Placings.{Placed, is_placed, follows, lined, may_place, next_placed, place_by, place_more, place_next, place_one, placed, starting}
 use Rattle.plan.specs.Rules.{widths, width_by}
-use Rattle.plan.proofs.Facts.{kinds, Follows, Seat, Seated, Unplaced, root, under}
+use Rattle.plan.proofs.Elements.{mapped_same, push_cases, set_cases, set_here, set_kept}
+use Rattle.plan.proofs.Facts.{kinds, Follows, Ordered, Ranked, Seat, Seated, Unplaced, root, under}
 use Rattle.plan.proofs.PlanLines.{widths-append}
 
 -- the parents of the controllers
@@ -39,6 +39,8 @@ pub record Laid (from : List Made) (p : Placed) : Type 0 where
   pub parents : parents p.controllers ≡ parents from
   pub lines : p.lines ≡ widths p.controllers p.order
   pub seats : (k : ℕ) (c : Made) (line : ℕ) → slice_get p.controllers k ≡ Some c → c.first_line ≡ Some line → Seat p.controllers p.order k c
+  pub ordered : Ordered p.controllers p.order
+  pub few : length p.order + waiting p.controllers ≤ length from
 
 -- lists of controllers of the same kinds have the same widths
 width_kinds : (cs ds : List Made) (k : ℕ) → kinds cs ≡ kinds ds → width_by (slice_get cs k) ≡ width_by (slice_get ds k)
@@ -51,18 +53,6 @@ width_kinds (c ∷ cs) (d ∷ ds) (suc k) e = let f : kinds cs ≡ kinds ds = cc
 widths_kinds : (cs ds : List Made) (ks : List ℕ) → kinds cs ≡ kinds ds → widths cs ks ≡ widths ds ks
 widths_kinds cs ds [] e = refl
 widths_kinds cs ds (k ∷ ks) e = let f = width_kinds cs ds k e in let g = widths_kinds cs ds ks e in omega arith
-
--- what a list holds after one element is replaced
-set_cases : {X : Type 0} (xs : List X) (k j : ℕ) (y c : X) → slice_get (slice_set xs k y) j ≡ Some c → ((j ≡ k) × (c ≡ y)) ⊎ (slice_get xs j ≡ Some c)
-set_cases [] k j y c h = inr h
-set_cases (x ∷ xs) zero zero y c h = inl (refl, cc)
-set_cases (x ∷ xs) zero (suc j) y c h = inr h
-set_cases (x ∷ xs) (suc k) zero y c h = inr h
-set_cases (x ∷ xs) (suc k) (suc j) y c h = set_more k j (set_cases xs k j y c h)
-  where
-    set_more : (k j : ℕ) → ((j ≡ k) × (c ≡ y)) ⊎ (slice_get xs j ≡ Some c) → ((suc j ≡ suc k) × (c ≡ y)) ⊎ (slice_get xs j ≡ Some c)
-    set_more k j (inl e) = inl (ap suc e.0, e.1)
-    set_more k j (inr e) = inr e
 
 -- where none is waiting, each is placed
 no_count : (w : Made → Bool) (cs : List Made) (k : ℕ) (c : Made) → count_by w cs ≤ 0 → slice_get cs k ≡ Some c → w c ≡ false
@@ -96,10 +86,10 @@ module _ (from : List Made) (p : Placed) (k : ℕ) (c : Made) (laid : Laid from 
   next = record { controllers = slice_set p.controllers k (lined p.lines c); order = p.order ++ k ∷ []; lines = p.lines + width_of c.kind }
 
   next_kinds : kinds next.controllers ≡ kinds p.controllers
-  next_kinds = map-set_same (λ d. d.kind) p.controllers k (lined p.lines c) c (ap (λ d. d.kind) (sym (get_or_from_slice_get p.controllers k c c there)))
+  next_kinds = mapped_same (λ d. d.kind) p.controllers k (lined p.lines c) c there refl
 
   next_parents : parents next.controllers ≡ parents p.controllers
-  next_parents = map-set_same (λ d. d.parent) p.controllers k (lined p.lines c) c (ap (λ d. d.parent) (sym (get_or_from_slice_get p.controllers k c c there)))
+  next_parents = mapped_same (λ d. d.parent) p.controllers k (lined p.lines c) c there refl
 
   next_widths : (ks : List ℕ) → widths next.controllers ks ≡ widths p.controllers ks
   next_widths ks = widths_kinds next.controllers p.controllers ks next_kinds
@@ -155,19 +145,64 @@ module _ (from : List Made) (p : Placed) (k : ℕ) (c : Made) (laid : Laid from 
   next_seat f j d line h (inl e) = rw (e.0, e.1) (new_seat f)
   next_seat f j d line h (inr e) = old_seat j d (laid.seats j d line e h)
 
-  next_laid : follows p c.parent ≡ true → Laid from next
-  next_laid f = record {
-    kinds = next_kinds ∙ laid.kinds;
-    parents = next_parents ∙ laid.parents;
-    lines = next_lines;
-    seats = λ j d line e h. next_seat f j d line h (set_cases p.controllers k j (lined p.lines c) d e);
-  }
-
   next_waiting : is_waiting c ≡ true → waiting next.controllers + 1 ≡ waiting p.controllers
   next_waiting w =
       let e = sum_by-set counts p.controllers k (lined p.lines c) c (slice_get_within p.controllers k c there) in
       let f = counts_one (get_or p.controllers k c) (ap is_waiting (get_or_from_slice_get p.controllers k c c there) ∙ w) in
       omega arith
+
+  -- those in the order and those that wait are no more than all
+  next_few : is_waiting c ≡ true → length next.order + waiting next.controllers ≤ length from
+  next_few w =
+      let f = laid.few in
+      let e = next_waiting w in
+      let l = length-append p.order (k ∷ []) in
+      omega arith
+
+  -- one that is placed stays placed
+  still_ranked : (j : ℕ) → Ranked p.controllers j → Ranked next.controllers j
+  still_ranked j r = by (set_kept p.controllers k j (lined p.lines c) r.controller r.there)
+    where
+      by : (slice_get next.controllers j ≡ Some (lined p.lines c)) ⊎ (slice_get next.controllers j ≡ Some r.controller) → Ranked next.controllers j
+      by (inl e) = record { controller = lined p.lines c; line = p.lines; there = e; placed = refl }
+      by (inr e) = record { controller = r.controller; line = r.line; there = e; placed = r.placed }
+
+  now_ranked : Ranked next.controllers k
+  now_ranked = record { controller = lined p.lines c; line = p.lines; there = set_here p.controllers k (lined p.lines c) c there; placed = refl }
+
+  next_ranked : (j i : ℕ) → (slice_get p.order j ≡ Some i) ⊎ ((j ≡ length p.order) × (i ≡ k)) → Ranked next.controllers i
+  next_ranked j i (inl e) = still_ranked i (laid.ordered.ranked j i e)
+  next_ranked j i (inr e) = subst (Ranked next.controllers) (sym e.1) now_ranked
+
+  -- one that waits is not in the order
+  not_yet : {P : Type 0} → is_waiting c ≡ true → Ranked p.controllers k → P
+  not_yet w r =
+      let e : c ≡ r.controller = same_Some c r.controller (sym there ∙ r.there) in
+      let f : is_waiting c ≡ false = ap is_waiting e ∙ ap (λ o. not (is_some o)) r.placed in
+      absurd (let o : true ≡ false = sym w ∙ f in cc)
+
+  next_once : is_waiting c ≡ true → (i j m : ℕ) → (slice_get p.order i ≡ Some m) ⊎ ((i ≡ length p.order) × (m ≡ k))
+      → (slice_get p.order j ≡ Some m) ⊎ ((j ≡ length p.order) × (m ≡ k)) → i ≡ j
+  next_once w i j m (inl e) (inl f) = laid.ordered.once i j m e f
+  next_once w i j m (inl e) (inr f) = not_yet w (subst (Ranked p.controllers) f.1 (laid.ordered.ranked i m e))
+  next_once w i j m (inr e) (inl f) = not_yet w (subst (Ranked p.controllers) e.1 (laid.ordered.ranked j m f))
+  next_once w i j m (inr e) (inr f) = e.0 ∙ sym f.0
+
+  next_ordered : is_waiting c ≡ true → Ordered next.controllers next.order
+  next_ordered w = record {
+    ranked = λ j i e. next_ranked j i (push_cases p.order k j i e);
+    once = λ i j m e f. next_once w i j m (push_cases p.order k i m e) (push_cases p.order k j m f);
+  }
+
+  next_laid : is_waiting c ≡ true → follows p c.parent ≡ true → Laid from next
+  next_laid w f = record {
+    kinds = next_kinds ∙ laid.kinds;
+    parents = next_parents ∙ laid.parents;
+    lines = next_lines;
+    seats = λ j d line e h. next_seat f j d line h (set_cases p.controllers k j (lined p.lines c) d e);
+    ordered = next_ordered w;
+    few = next_few w;
+  }
 
 -- one step more
 pub record Step (from : List Made) (p q : Placed) : Type 0 where
@@ -183,7 +218,7 @@ step_at : (from : List Made) (p q : Placed) (k : ℕ) (o : Option Made) → Laid
 step_at from p q k None laid e may h = absurd (let f : Err fault.Root ≡ Ok q = h in cc)
 step_at from p q k (Some c) laid e may h =
     let m = may_parts (is_waiting c) (follows p c.parent) (may c refl) in
-    let s : Step from p (next from p k c laid e) = record { laid = next_laid from p k c laid e m.1; fewer = next_waiting from p k c laid e m.0 } in
+    let s : Step from p (next from p k c laid e) = record { laid = next_laid from p k c laid e m.0 m.1; fewer = next_waiting from p k c laid e m.0 } in
     let f : next from p k c laid e ≡ q = cc in
     rw (← f) s
 
@@ -217,6 +252,8 @@ starting_laid cs u = record {
   parents = refl;
   lines = refl;
   seats = λ k c line e h. absurd (let f = u k c e in cc);
+  ordered = record { ranked = λ j k e. absurd (none-some k e); once = λ i j k e f. absurd (none-some k e) };
+  few = let w = count_by-le-length is_waiting cs in omega arith;
 }
 
 -- once all are placed, each controller has its seat
@@ -230,4 +267,6 @@ seated cs p u h =
       seats = λ k c e.
           let l = is_line c.first_line (no_count is_waiting p.controllers k c m.1 e) in
           laid.seats k c l.0 e l.1;
+      ordered = laid.ordered;
+      few = let f = laid.few in omega arith;
     }

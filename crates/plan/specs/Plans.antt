@@ -47,3 +47,12 @@ line_of cs s = line_by s (slice_get cs s.controller)
 abbrev pub held : Option ℕ → Option ℕ
 held None = None
 held (Some n) = cond (nat_lt n (2 ^ 64)) (Some n) None
+
+-- the controller of this number
+abbrev pub made_at : Planned → Option ℕ → Option Made
+made_at p None = None
+made_at p (Some k) = slice_get p.controllers k
+
+-- the controller at this place of the order
+abbrev pub placed_at : Planned → ℕ → Option Made
+placed_at p place = made_at p (slice_get p.order place)

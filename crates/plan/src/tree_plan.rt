@@ -1,9 +1,9 @@
-ghost use Rattle.std.specs.Prelude.{◌≡◌, IfOk, map};
+ghost use Rattle.std.specs.Prelude.{◌≡◌, ◌≤◌, IfOk, length, map};
 ghost use Rattle.tree.specs.Reads.{nodes_of};
 ghost use Rattle.plan.specs.Controllers.{made};
-ghost use Rattle.plan.specs.Plans.{held, line_of, plan_of};
+ghost use Rattle.plan.specs.Plans.{held, line_of, placed_at, plan_of};
 ghost use Rattle.plan.specs.Rules.{PlanRules};
-ghost use Rattle.plan.specs.Seen.{planned, plan_seen, routed};
+ghost use Rattle.plan.specs.Seen.{made_option, plan_seen, planned, routed};
 
 use crate::draft::Draft;
 use crate::placed::{Controller, Spot};
@@ -49,16 +49,27 @@ impl<'a> Plan<'a> {
         self.controllers.as_slice()
     }
 
-    // The numbers of the controllers, in the order of placing.
+    // The numbers of the controllers, in the order of placing; 4 at most.
     pub fn order(&self) -> &[usize]
-        ensures { result.now ≡ (planned self.now).order }
+        ensures is { result.now ≡ (planned self.now).order }
+        ensures few { length result.now ≤ 4 }
     {
         self.order.as_slice()
     }
 
-    // The routes, in blob order.
+    // The controller at this place of the order of placing, which has four places at most.
+    pub fn placed_at(&self, place: usize) -> Option<Controller<'a>>
+        ensures is { made_option result ≡ placed_at (planned self.now) place }
+        ensures few { length (planned self.now).order ≤ 4 }
+    {
+        let k = *self.order().get(place)?;
+        self.controllers().get(k).copied()
+    }
+
+    // The routes, in blob order; 256 at most.
     pub fn routes(&self) -> &[Route]
-        ensures { map routed result.now ≡ (planned self.now).routes }
+        ensures is { map routed result.now ≡ (planned self.now).routes }
+        ensures few { length result.now ≤ 256 }
     {
         self.routes.as_slice()
     }

@@ -1,0 +1,4 @@
+pub mod Seats
+pub mod Devices
+pub mod Assembly
+pub mod Boards
