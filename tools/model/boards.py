@@ -140,11 +140,11 @@ class Event:
         """The call as a line of an events file."""
         return "%s%5d" % (self.letter, self.route)
 
-    def text(self):
+    def text(self, claim="C"):
+        """The call and its answer, a claim in this word."""
         if self.letter == "C":
-            answer = "none" if self.answer is None else "named %d" % self.answer
-        else:
-            answer = "done" if self.answer == "done" else "refused %d" % self.answer
+            return claim + (" none" if self.answer is None else " named %d" % self.answer)
+        answer = "done" if self.answer == "done" else "refused %d" % self.answer
         return "%s %d %s" % (self.letter, self.route, answer)
 
 

@@ -163,7 +163,7 @@ class Foreign(Side):
         return ["routes %d" % len(self.routes())] + [route_line(route) for route in self.routes()]
 
     def answers(self):
-        return ["%s %d %s" % (self.word, n, event.text()) for n, event in enumerate(self.events())]
+        return ["%s %d %s" % (self.word, n, event.text("C 0")) for n, event in enumerate(self.events())]
 
     def devices(self):
         return [self.device(i) for i in range(len(self.routes()))]
@@ -180,7 +180,7 @@ def run_one(side, text):
     for n, given in enumerate(text.splitlines()):
         letter, route = given.split(" ")
         side.board.call(letter, int(route))
-        lines.append("%s %d %s, offer %s" % (side.word, n, side.board.events[-1].text(), offer(side.board)))
+        lines.append("%s %d %s, offer %s" % (side.word, n, side.board.events[-1].text("C 0"), offer(side.board)))
     return lines + side.devices()
 
 

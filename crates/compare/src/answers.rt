@@ -20,7 +20,7 @@ pub fn write_run(text: &mut Vec<u8>, side: &str, outcome: &Outcome) -> io::Resul
     Ok(())
 }
 
-// A call as a list has it: its letter and its route, 0 for a claim.
+// A call: its letter and its route, of which a claim has none.
 #[derive(Drop)]
 struct CallText(Call);
 
@@ -31,7 +31,7 @@ impl fmt::Display for CallText {
             Call::Drive(route, false) => ('L', route),
             Call::Mask(route, true) => ('M', route),
             Call::Mask(route, false) => ('U', route),
-            Call::Claim => ('C', 0),
+            Call::Claim => return write!(f, "C"),
             Call::Complete(route) => ('E', route),
         };
         write!(f, "{letter} {route}")
