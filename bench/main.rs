@@ -141,6 +141,13 @@ fn compare(bytes: &[u8], name: &str) {
     must(sum == plain::plan_digest::<Index>(bytes), "the plan by index", name);
 }
 
+// The same calls, so many times, on the board of a blob.
+fn compare_run(bytes: &[u8], calls: &[u32], times: u32, name: &str) {
+    let sum = ours::run(bytes, calls, times);
+    must(sum == plain::run::<Bits>(bytes, calls, times), "a run over sets", name);
+    must(sum == plain::run::<Rows>(bytes, calls, times), "a run over rows", name);
+}
+
 // Any calls, refused ones too, on the board of a blob.
 fn compare_calls(bytes: &[u8], name: &str, random: &mut Random) {
     let routes = ours::routes(bytes);
@@ -151,9 +158,7 @@ fn compare_calls(bytes: &[u8], name: &str, random: &mut Random) {
         })
         .collect();
     for times in [0, 1, 2] {
-        let sum = ours::run(bytes, &calls, times);
-        must(sum == plain::run::<Bits>(bytes, &calls, times), "a run over sets", name);
-        must(sum == plain::run::<Rows>(bytes, &calls, times), "a run over rows", name);
+        compare_run(bytes, &calls, times, name);
     }
     for call in &calls[..64] {
         let answer = ours::one_call(bytes, *call);
@@ -398,9 +403,7 @@ fn events(blobs: &[(String, Vec<u8>)], turns: u32) {
             ("one at a time", one_at_a_time(routes)),
             ("many at once", many_at_once(b)),
         ] {
-            let sum = ours::run(b, &calls, 3);
-            must(sum == plain::run::<Bits>(b, &calls, 3), "a run over sets", name);
-            must(sum == plain::run::<Rows>(b, &calls, 3), "a run over rows", name);
+            compare_run(b, &calls, 3, name);
             // What assembly takes is taken off.
             let run = |times: u32| {
                 least(

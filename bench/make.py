@@ -81,8 +81,16 @@ def plic(b, name, phandle, width, *own):
     b.close()
 
 
-def fill(build, size):
-    """The largest n for which build(n) is no longer than size; its blob."""
+def fill(tree, size):
+    """The blob of the largest tree of this sort that is no longer than size: `tree` writes the root's subnodes, more for a larger n."""
+
+    def build(n):
+        b = Blob()
+        b.open()
+        tree(b, n, size)
+        b.close()
+        return b.blob()
+
     low, high = 0, size
     while low < high:
         middle = (low + high + 1) // 2
@@ -96,205 +104,175 @@ def fill(build, size):
 # ---- worst trees ----
 
 
-def phandles(size):
-    """As many nodes with a phandle as there is room for."""
-
-    def build(n):
-        b = Blob()
-        b.open()
-        for i in range(n):
-            b.open("n")
-            b.property("phandle", i + 1)
-            b.close()
+def phandles(b, n, size):
+    """Nodes with a phandle."""
+    for i in range(n):
+        b.open("n")
+        b.property("phandle", i + 1)
         b.close()
-        return b.blob()
-
-    return fill(build, size)
 
 
-def long_names(size):
+def long_names(b, n, size):
     """Nodes with phandles after a node whose empty properties all have one long name: a third of the room each."""
+    b.open("a")
+    for _ in range(28 * n // 12):
+        b.property("x" * (28 * n))
+    b.close()
+    phandles(b, n, size)
 
-    def build(n):
-        b = Blob()
-        b.open()
-        b.open("a")
-        for _ in range(28 * n // 12):
-            b.property("x" * (28 * n))
+
+def four_plics(b):
+    """Four PLICs, each but the first cascaded at the last input of the one before."""
+    plic(b, "p", 1, 64)
+    for number, name in enumerate("qrs", 2):
+        plic(b, name, number, 64, number - 1, 64)
+
+
+def device_count(size):
+    return 253 * size // (64 * KIB)
+
+
+def devices(b, size):
+    """Up to 253 devices, each with its number for its specifier."""
+    for d in range(device_count(size)):
+        b.open("d")
+        b.property("interrupts", d + 1)
         b.close()
-        for i in range(n):
-            b.open("n")
-            b.property("phandle", i + 1)
-            b.close()
-        b.close()
-        return b.blob()
-
-    return fill(build, size)
 
 
-def rows(size, parents=(4, 3)):
+def device_rows(size):
+    """The cells of a map with a row for each device, which ends at an input of its own at one of the four PLICs."""
+    inputs = [i for i in range(4 * 64) if i not in (63, 127, 191)]
+    return [cell for d, i in enumerate(inputs[: device_count(size)]) for cell in (d + 1, 1 + i // 64, 1 + i % 64)]
+
+
+def rows(b, n, size, parents=(4, 3)):
     """Up to 253 routes through one map, whose first rows do not match and name the last two nodes by turns; no-ops stand before those."""
-    devices = 253 * size // (64 * KIB)
-    inputs = [i for i in range(4 * 64) if i not in (63, 127, 191)][:devices]
-
-    def build(n):
-        b = Blob()
-        b.open()
-        b.open("x")
-        b.property("#interrupt-cells", 1)
-        b.property("#address-cells", 0)
-        b.property("phandle", 9)
-        cells = []
-        for row in range(n):
-            cells += [0, parents[row % len(parents)], 1]
-        for d, i in enumerate(inputs):
-            cells += [d + 1, 1 + i // 64, 1 + i % 64]
-        b.property("interrupt-map", *cells)
-        for d in range(devices):
-            b.open("d")
-            b.property("interrupts", d + 1)
-            b.close()
-        b.close()
-        b.nothing(3 * n)
-        plic(b, "p", 1, 64)
-        plic(b, "q", 2, 64, 1, 64)
-        plic(b, "r", 3, 64, 2, 64)
-        plic(b, "s", 4, 64, 3, 64)
-        b.close()
-        return b.blob()
-
-    return fill(build, size)
+    b.open("x")
+    b.property("#interrupt-cells", 1)
+    b.property("#address-cells", 0)
+    b.property("phandle", 9)
+    cells = []
+    for row in range(n):
+        cells += [0, parents[row % len(parents)], 1]
+    b.property("interrupt-map", *cells, *device_rows(size))
+    devices(b, size)
+    b.close()
+    b.nothing(3 * n)
+    four_plics(b)
 
 
-def rows_one(size):
+def rows_one(b, n, size):
     """The same, where all those rows name the last node."""
-    return rows(size, [4])
+    rows(b, n, size, [4])
 
 
-def candidates(size):
+def candidates(b, n, size):
     """Devices, each with a chain of 64 candidates for its interrupt parent; no-ops stand before the chain."""
-    devices = 253 * size // (64 * KIB)
-
-    def build(n):
-        b = Blob()
-        b.open()
-        plic(b, "p", 1, 64)
-        plic(b, "q", 2, 64, 1, 64)
-        plic(b, "r", 3, 64, 2, 64)
-        plic(b, "s", 4, 64, 3, 64)
-        b.open("x")
-        b.property("interrupt-parent", 100)
-        for d in range(devices):
-            b.open("d")
-            b.property("interrupts", d + 1)
-            b.close()
+    four_plics(b)
+    b.open("x")
+    b.property("interrupt-parent", 100)
+    devices(b, size)
+    b.close()
+    b.nothing(n)
+    # The last of the chain is a nexus with every input, so that each device has a line of its own.
+    b.open("y")
+    for i in range(62):
+        b.open("c")
+        b.property("phandle", 100 + i)
+        b.property("interrupt-parent", 101 + i)
         b.close()
-        b.nothing(n)
-        # The last of the chain is a nexus with every input, so that each device has a line of its own.
-        b.open("y")
-        for i in range(62):
-            b.open("c")
-            b.property("phandle", 100 + i)
-            b.property("interrupt-parent", 101 + i)
-            b.close()
-        b.open("z")
-        b.property("phandle", 162)
-        b.property("#interrupt-cells", 1)
-        b.property("#address-cells", 0)
-        cells = []
-        for d, i in enumerate([i for i in range(256) if i not in (63, 127, 191)][:devices]):
-            cells += [d + 1, 1 + i // 64, 1 + i % 64]
-        b.property("interrupt-map", *cells)
-        b.close()
-        b.close()
-        b.close()
-        return b.blob()
-
-    return fill(build, size)
+    b.open("z")
+    b.property("phandle", 162)
+    b.property("#interrupt-cells", 1)
+    b.property("#address-cells", 0)
+    b.property("interrupt-map", *device_rows(size))
+    b.close()
+    b.close()
 
 
-def deep(size):
+def deep(b, n, size):
     """Nodes 16 deep, each with a phandle that a device at the bottom names in `interrupts-extended`."""
-
-    def build(n):
-        b = Blob()
-        b.open()
-        plic(b, "p", 1, 64)
-        for _ in range(14):
-            b.open("n")
-        for i in range(n):
-            b.open("d")
-            b.property("phandle", i + 2)
-            b.property("interrupts-extended")
-            b.close()
-        b.open("e")
-        b.property("interrupts-extended", 1, 1)
+    plic(b, "p", 1, 64)
+    for _ in range(14):
+        b.open("n")
+    for i in range(n):
+        b.open("d")
+        b.property("phandle", i + 2)
+        b.property("interrupts-extended")
         b.close()
-        for _ in range(15):
-            b.close()
-        return b.blob()
+    b.open("e")
+    b.property("interrupts-extended", 1, 1)
+    b.close()
+    for _ in range(14):
+        b.close()
 
-    return fill(build, size)
 
-
-def extended(size):
+def extended(b, n, size):
     """A controller with as many specifiers in `interrupts-extended` as no-ops stand before the node that they name."""
-
-    def build(n):
-        b = Blob()
-        b.open()
-        plic(b, "p", 1, 64, *[2, 1] * n)
-        b.nothing(2 * n)
-        plic(b, "q", 2, 64)
-        b.close()
-        return b.blob()
-
-    return fill(build, size)
+    plic(b, "p", 1, 64, *[2, 1] * n)
+    b.nothing(2 * n)
+    plic(b, "q", 2, 64)
 
 
-def specifiers(size, wide=0):
+def specifiers(b, n, size, wide=False):
     """A controller with many specifiers, each through a map eight times; its rows name the last two nodes by turns. A third of the room each for
     specifiers, rows and what a search passes: no-ops, or empty properties with one long name."""
-
-    def build(n):
-        b = Blob()
-        b.open()
-        if wide:
-            b.open("a")
-            for _ in range(n):
-                b.property("x" * (12 * n))
-            b.close()
-        else:
-            b.nothing(3 * n)
-        b.open("p")
-        b.text("compatible", "sifive,plic-1.0.0")
-        b.property("interrupt-controller")
-        b.property("#interrupt-cells", 1)
-        b.property("riscv,ndev", 64)
-        b.property("interrupt-parent", 9)
-        b.property("interrupts", *[1] * (3 * n))
+    if wide:
+        b.open("a")
+        for _ in range(n):
+            b.property("x" * (12 * n))
         b.close()
-        b.open("x")
-        b.property("#interrupt-cells", 1)
-        b.property("#address-cells", 0)
-        b.property("phandle", 9)
-        cells = []
-        for row in range(n):
-            cells += [0, 2 + row % 2, 1]
-        for i in range(1, 8):
-            cells += [i, 9, i + 1]
-        b.property("interrupt-map", *cells, 8, 2, 1)
-        b.close()
-        plic(b, "q", 2, 64)
-        plic(b, "r", 3, 64)
-        b.close()
-        return b.blob()
+    else:
+        b.nothing(3 * n)
+    b.open("p")
+    b.text("compatible", "sifive,plic-1.0.0")
+    b.property("interrupt-controller")
+    b.property("#interrupt-cells", 1)
+    b.property("riscv,ndev", 64)
+    b.property("interrupt-parent", 9)
+    b.property("interrupts", *[1] * (3 * n))
+    b.close()
+    b.open("x")
+    b.property("#interrupt-cells", 1)
+    b.property("#address-cells", 0)
+    b.property("phandle", 9)
+    cells = []
+    for row in range(n):
+        cells += [0, 2 + row % 2, 1]
+    for i in range(1, 8):
+        cells += [i, 9, i + 1]
+    b.property("interrupt-map", *cells, 8, 2, 1)
+    b.close()
+    plic(b, "q", 2, 64)
+    plic(b, "r", 3, 64)
 
-    return fill(build, size)
+
+def wide_specifiers(b, n, size):
+    specifiers(b, n, size, wide=True)
 
 
-def wide_specifiers(size):
-    return specifiers(size, wide=1)
+def arrivals(b, n, size):
+    """A controller with many specifiers, each eight times at one nexus with eight rows, which has no-ops before its properties. Half of the room each."""
+    b.open("p")
+    b.text("compatible", "sifive,plic-1.0.0")
+    b.property("interrupt-controller")
+    b.property("#interrupt-cells", 1)
+    b.property("riscv,ndev", 64)
+    b.property("interrupt-parent", 9)
+    b.property("interrupts", *[1] * n)
+    b.close()
+    b.open("x")
+    b.nothing(n)
+    b.property("#interrupt-cells", 1)
+    b.property("#address-cells", 0)
+    b.property("phandle", 9)
+    cells = []
+    for i in range(1, 8):
+        cells += [i, 9, i + 1]
+    b.property("interrupt-map", *cells, 8, 2, 1)
+    b.close()
+    plic(b, "q", 2, 64)
 
 
 WORST = {
@@ -307,6 +285,7 @@ WORST = {
     "rows": (rows, 16, 64),
     "specifiers": (specifiers, 2, 64),
     "wide-specifiers": (wide_specifiers, 1, 64),
+    "arrivals": (arrivals, 2, 64),
 }
 
 
@@ -457,7 +436,7 @@ def main(folder):
         # Each twice as large as the one before.
         while size <= last:
             with open(os.path.join(folder, "worst-%s-%02d.dtb" % (name, size)), "wb") as out:
-                out.write(tree(size * KIB))
+                out.write(fill(tree, size * KIB))
             size *= 2
 
 

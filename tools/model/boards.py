@@ -140,10 +140,10 @@ class Event:
         """The call as a line of an events file."""
         return "%s%5d" % (self.letter, self.route)
 
-    def text(self, claim="C"):
-        """The call and its answer, a claim in this word."""
+    def text(self):
+        """The call and its answer."""
         if self.letter == "C":
-            return claim + (" none" if self.answer is None else " named %d" % self.answer)
+            return "C none" if self.answer is None else "C named %d" % self.answer
         answer = "done" if self.answer == "done" else "refused %d" % self.answer
         return "%s %d %s" % (self.letter, self.route, answer)
 
@@ -177,6 +177,10 @@ class Board:
         for given in text.splitlines():
             assert len(given) == 6
             self.call(given[0], int(given[1:]))
+
+    def given(self):
+        """The calls of the events as an events file."""
+        return "".join(event.given() + "\n" for event in self.events)
 
     def serving(self):
         return [i for i in range(len(self.routes)) if self.record(i).service]
@@ -316,9 +320,12 @@ class Side:
             first.setdefault(route.key, route.number)
         return first
 
+    def answers(self):
+        return ["%s %d %s" % (self.word, n, event.text()) for n, event in enumerate(self.events())]
+
     def text(self):
         lines = ["%s refused: %s" % (self.word, self.refusal)] if self.refusal else []
-        return lines + ["%s %d %s" % (self.word, n, event.text()) for n, event in enumerate(self.events())]
+        return lines + self.answers()
 
     def sense(self, i):
         return self.routes()[i].sense

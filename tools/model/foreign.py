@@ -162,9 +162,6 @@ class Foreign(Side):
     def route_lines(self):
         return ["routes %d" % len(self.routes())] + [route_line(route) for route in self.routes()]
 
-    def answers(self):
-        return ["%s %d %s" % (self.word, n, event.text("C 0")) for n, event in enumerate(self.events())]
-
     def devices(self):
         return [self.device(i) for i in range(len(self.routes()))]
 
@@ -177,17 +174,10 @@ def offer(board):
 def run_one(side, text):
     """A board with the offer after each event."""
     lines = side.asked() + side.route_lines() + ["offer " + offer(side.board)]
-    for n, given in enumerate(text.splitlines()):
-        letter, route = given.split(" ")
-        side.board.call(letter, int(route))
-        lines.append("%s %d %s, offer %s" % (side.word, n, side.board.events[-1].text("C 0"), offer(side.board)))
+    for n, call in enumerate(text.splitlines()):
+        side.run(call)
+        lines.append("%s %d %s, offer %s" % (side.word, n, side.events()[-1].text(), offer(side.board)))
     return lines + side.devices()
-
-
-def run(side, text):
-    for given in text.splitlines():
-        letter, route = given.split(" ")
-        side.board.call(letter, int(route))
 
 
 def same(one, other):
@@ -212,11 +202,6 @@ def pairs(old, new):
     return [pair(old, i, new, j) for i, j in numbers if old.sense(i) == new.sense(j)]
 
 
-def given(board):
-    """The calls of a board's events, one a line."""
-    return "".join("%s %d\n" % (event.letter, event.route) for event in board.events)
-
-
 class Shown:
     """The blobs and lists of events in crates/foreign_boards/data, and the text."""
 
@@ -239,7 +224,7 @@ class Shown:
         """Two lists of events, each for one of the boards of two cases."""
         boards = [self.side("list", *case).board for case in (old, new)]
         Lists(Random(crc32(title.encode())).random, *boards, size)
-        return [given(board) for board in boards]
+        return [board.given() for board in boards]
 
     def put(self, title, text):
         assert title not in self.lists
@@ -257,7 +242,7 @@ class Shown:
         sides = [self.side("old", old_name, old_words), self.side("new", new_name, new_words)]
         for side, text in zip(sides, texts):
             self.put(title + "." + side.word, text)
-            run(side, text)
+            side.run(text)
         for part in (Foreign.asked, Foreign.route_lines, Foreign.answers, Foreign.devices):
             self.lines += part(sides[0]) + part(sides[1])
         self.lines += pairs(*sides)

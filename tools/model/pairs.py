@@ -208,7 +208,7 @@ class Compared:
 
     def put(self, name, board):
         assert name not in self.lists
-        self.lists[name] = "".join(event.given() + "\n" for event in board.events)
+        self.lists[name] = board.given()
 
     def add(self, words, size, at_once=False):
         names = words.split()

@@ -59,7 +59,7 @@ class Compared:
             mapped(*boards)
         else:
             Lists(chance.random, *boards, size)
-        self.lists = ["".join(event.given() + "\n" for event in board.events) for board in boards]
+        self.lists = [board.given() for board in boards]
         # The list of a side without a board is not run.
         self.events = sum(len(side.events()) for side in (self.old, self.new))
         self.text = Comparison(self.old, self.new).text().encode("latin-1")

@@ -126,7 +126,7 @@ pub(crate) fn tree_sum(tree: &Tree<'_>) -> u64 {
             };
             sum.add_number(property.place.0);
             sum.add_number(property.name.place.0);
-            sum.add_number(property.name.bytes.len());
+            sum.add_number(property.name.bytes().len());
             sum.add_number(property.value.bytes.len());
         }
     }

@@ -1,5 +1,5 @@
 -- One call more of the devices over a controller of any make.
-use Rattle.std.proofs.Common.{◌≡◌, ℕ, ◌<◌, ◌≤◌, cond, List, [], ◌∷◌, ◌++◌, get_or, length, map, Some, Ok, Err, Option, Result, sym, ap, ◌∙◌, subst, arith}
+use Rattle.std.proofs.Common.{◌≡◌, ℕ, ◌<◌, ◌≤◌, cond, List, [], ◌∷◌, ◌++◌, get_or, length, map, Some, None, Ok, Err, Option, Result, sym, refl, ap, ◌∙◌, subst, arith}
 use Rattle.std.specs.Prelude.{◌==◌, nat_lt}
 use Rattle.std.proofs.lemmas.Bool.Decides.{nat_tests}
 use Rattle.search.specs.First.{first}
@@ -12,14 +12,15 @@ use Rattle.history.specs.declared.call.Event.{Event}
 use Rattle.history.specs.Law.{answered}
 use Rattle.controller.specs.declared.call.CallFault.{CallFault}
 use Rattle.controller.specs.declared.call.Change.{Change}
+use Rattle.controller.specs.declared.call.Change.TheVariants as change
 use Rattle.controller.specs.declared.interface.Controller.{Ghosts}
-use Rattle.controller.specs.Calls.{outcome}
-use Rattle.controller.specs.Meaning.{Changed, Claimed, Lawful, all_reset}
+use Rattle.controller.specs.Calls.{outcome, step_of}
+use Rattle.controller.specs.Meaning.{Changed, Claimed, Lawful, Meaning, all_reset}
 use Rattle.boards.specs.declared.device.Device.{Device}
 use Rattle.boards.specs.declared.device.DeviceFault.{DeviceFault}
 use Rattle.boards.specs.declared.device.DeviceFault.TheVariants.{NoRoute}
 use Rattle.boards.specs.Seats.{Seat, line_at, no_seat, seat}
-use Rattle.boards.specs.Devices.{Led, Stood, called, device_refusal, done_or, offered}
+use Rattle.boards.specs.Devices.{Led, Stepped, Stood, Turns, called, change_step, claim_step, device_refusal, done_or, offered, step_in, step_unless}
 use Rattle.boards.proofs.Turning.{change_answer, device_seen, turn_change, turn_claim, turn_refused, turn_reset}
 
 -- which device was found
@@ -37,6 +38,32 @@ not_found ds i f e = grind (arith, nat_tests)
 
 pub no_route : (ds : List Seat) (i : ℕ) (f : DeviceFault) → Found ds i (Err f) → f ≡ NoRoute
 no_route ds i f e = grind (arith, nat_tests)
+
+-- a change as a call steps the same line
+called_step : (c : Change) (m : Meaning) (ds : List Seat) (i : ℕ) (k : Call) → called c i ≡ Some k → change_step c m.lines ds i ≡ step_in m ds k
+called_step (change.Drive high) m ds i k e = let q : call.Drive i high ≡ k = cc in ap (step_in m ds) q
+called_step (change.Mask on) m ds i k e = let q : call.Mask i on ≡ k = cc in ap (step_in m ds) q
+called_step (change.Sense s) m ds i k e = absurd cc
+called_step change.Complete m ds i k e = let q : call.Complete i ≡ k = cc in ap (step_in m ds) q
+
+-- a controller's change, by the refusal of the device's
+changed_step : {Y : Type 0} (o : Option DeviceFault) (c : Change) (j : ℕ) (m n : Meaning) (r : Result Y CallFault) → device_seen r ≡ outcome o → Changed c j m n r → Stepped m n (step_unless o j (step_of c))
+changed_step None c j m n (Ok y) e ch = ch.lines
+changed_step None c j m n (Err f) e ch = absurd cc
+changed_step (Some d) c j m n (Ok y) e ch = absurd cc
+changed_step (Some d) c j m n (Err f) e ch = ch.same
+
+-- a controller's claim steps the offered line
+pub claimed_step : (m n : Meaning) (ds : List Seat) (r : Option ℕ) → Claimed m n r → Turns ds call.Claim m n
+claimed_step m n ds None (o, e) = subst (λ (x : Option ℕ). Stepped m n (claim_step x)) (sym o) e
+claimed_step m n ds (Some k) ch = subst (λ (x : Option ℕ). Stepped m n (claim_step x)) (sym ch.offered) ch.lines
+
+-- a call of no device steps none
+pub refused_step : (m : Meaning) (ds : List Seat) (i : ℕ) (c : Change) (k : Call) (f : DeviceFault) → Found ds i (Err f) → called c i ≡ Some k → Turns ds k m m
+refused_step m ds i c k f n e =
+    let past = not_found ds i f n in
+    let d : device_refusal c m.lines ds i ≡ Some NoRoute = grind (arith, nat_tests) in
+    rw (← called_step c m ds i k e) (rw d refl)
 
 module _ {C : Type 0} (g : Ghosts C) (x : C) (ds : List Seat) where
   -- there is no such device
@@ -59,6 +86,13 @@ module _ {C : Type 0} (g : Ghosts C) (x : C) (ds : List Seat) where
   changed_answer {Y} y i c k h s r n e l steps =
       let ch : Changed c (line_at ds i) (g.meaning x) (g.meaning y) r = subst (λ (j : ℕ). Changed c j (g.meaning x) (g.meaning y) r) (found_line ds i s n) (steps l.sound) in
       change_answer ds i c k (g.meaning x) (g.meaning y) r h (found_below ds i s n) e l.stood ch
+
+  pub changed_turns : {Y : Type 0} (y : C) (i : ℕ) (c : Change) (k : Call) (h : List Event) (s : Seat) (r : Result Y CallFault) → Found ds i (Ok s) → called c i ≡ Some k → Led g x ds h
+      → (g.sound x → Changed c s.line (g.meaning x) (g.meaning y) r) → Turns ds k (g.meaning x) (g.meaning y)
+  changed_turns {Y} y i c k h s r n e l steps =
+      let ch : Changed c (line_at ds i) (g.meaning x) (g.meaning y) r = subst (λ (j : ℕ). Changed c j (g.meaning x) (g.meaning y) r) (found_line ds i s n) (steps l.sound) in
+      rw (← called_step c (g.meaning x) ds i k e)
+      (changed_step (device_refusal c (g.meaning x).lines ds i) c (line_at ds i) (g.meaning x) (g.meaning y) r (changed_answer y i c k h s r n e l steps) ch)
 
   pub led_claimed : (y : C) (h : List Event) (r o : Option ℕ) → ((x : C) → g.sound x → Lawful (g.meaning x)) → o ≡ offered ds r → Led g x ds h
       → (g.sound x → g.sound y) → (g.sound x → Claimed (g.meaning x) (g.meaning y) r) → Led g y ds (h ++ (answered call.Claim (answer.Named o) ∷ []))

@@ -11,7 +11,7 @@ use Rattle.cascade.specs.declared.pair.Cascade.{Cascade}
 use Rattle.boards.specs.declared.board.Board.{Board}
 use Rattle.boards.specs.declared.parts.Parts.{Parts}
 use Rattle.boards.specs.Assembly.{Lists, asked, cascaded_lines, reset_lists, seats_of, wiring_of}
-use Rattle.boards.specs.Devices.{Led, device_row, senses_set}
+use Rattle.boards.specs.Devices.{Led, Ran, device_row, senses_set}
 use Rattle.boards.specs.Seats.{Seat, line_at, no_seat, seats, sense_at}
 
 module _ {A B C D : Type 0} (a : Ghosts A) (b : Ghosts B) (c : Ghosts C) (d : Ghosts D) where
@@ -64,3 +64,10 @@ module _ {A B C D : Type 0} (a : Ghosts A) (b : Ghosts B) (c : Ghosts C) (d : Gh
     pub drawn : Drawn a b c d es p (devices_in x)
     pub lines : (meaning_in g x).lines ≡ senses_set (devices_in x) (cascaded_lines drawn.lists (wiring_of (asked (plan_of es) drawn.lists)))
     pub led : BoardLed g x []
+
+  -- A board that ran these events after it was assembled so.
+  pub record AssembledRan (es : List Listed) (p : Parts A B C D) (h : List Event) (x : Board A B C D) : Type 0 where
+    pub start : Board A B C D
+    pub assembled : Assembled es p start
+    pub devices : devices_in x ≡ devices_in start
+    pub ran : Ran (devices_in start) (meaning_in g start) h (meaning_in g x)

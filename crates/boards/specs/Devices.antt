@@ -4,6 +4,7 @@ use Rattle.search.specs.First.{first}
 use Rattle.line.specs.declared.row.Row.{Row}
 use Rattle.line.specs.declared.row.Sense.TheVariants.{Edge}
 use Rattle.line.specs.Rows.{fresh}
+use Rattle.line.specs.declared.row.Step.{Step}
 use Rattle.line.specs.declared.row.Step.TheVariants as step
 use Rattle.history.specs.declared.call.Answer.{Answer}
 use Rattle.history.specs.declared.call.Answer.TheVariants.{Done, Named, Refused}
@@ -14,7 +15,7 @@ use Rattle.history.specs.Law.{After}
 use Rattle.controller.specs.declared.call.Change.{Change}
 use Rattle.controller.specs.declared.call.Change.TheVariants.{Drive, Mask, Sense, Complete}
 use Rattle.controller.specs.declared.interface.Controller.{Ghosts}
-use Rattle.controller.specs.Calls.{outcome}
+use Rattle.controller.specs.Calls.{outcome, step_of}
 use Rattle.controller.specs.Meaning.{Meaning, at, step_at}
 use Rattle.boards.specs.declared.device.DeviceFault.{DeviceFault}
 use Rattle.boards.specs.declared.device.DeviceFault.TheVariants.{NoRoute, NotInService}
@@ -90,6 +91,39 @@ answer_of m ds (call.Drive i high) = done_or (outcome (device_refusal (Drive hig
 answer_of m ds (call.Mask i on) = done_or (outcome (device_refusal (Mask on) m.lines ds i))
 answer_of m ds call.Claim = Named (offered ds m.offer)
 answer_of m ds (call.Complete i) = done_or (outcome (device_refusal Complete m.lines ds i))
+
+abbrev pub step_unless : Option DeviceFault → ℕ → Step → Option (ℕ × Step)
+step_unless None k s = Some (k, s)
+step_unless (Some f) k s = None
+
+-- the line of device i, and how a change steps it; none where it is refused
+abbrev pub change_step : Change → List (Option Row) → List Seat → ℕ → Option (ℕ × Step)
+change_step c ls ds i = step_unless (device_refusal c ls ds i) (line_at ds i) (step_of c)
+
+abbrev pub claim_step : Option ℕ → Option (ℕ × Step)
+claim_step None = None
+claim_step (Some k) = Some (k, step.Claim)
+
+-- which line a call steps, and how: the line of its device, or the offered one; none where it is refused, or a claim finds no offer
+abbrev pub step_in : Meaning → List Seat → Call → Option (ℕ × Step)
+step_in m ds (call.Drive i high) = change_step (Drive high) m.lines ds i
+step_in m ds (call.Mask i on) = change_step (Mask on) m.lines ds i
+step_in m ds call.Claim = claim_step m.offer
+step_in m ds (call.Complete i) = change_step Complete m.lines ds i
+
+-- this line is stepped so and no other; without one nothing is changed, the offer included
+abbrev pub Stepped : Meaning → Meaning → Option (ℕ × Step) → Type 0
+Stepped m m' None = m' ≡ m
+Stepped m m' (Some x) = m'.lines ≡ step_at x.1 m.lines x.0
+
+-- what the controller means before a call, and after it
+abbrev pub Turns : List Seat → Call → Meaning → Meaning → Type 0
+Turns ds k m m' = Stepped m m' (step_in m ds k)
+
+-- The events of a list, one after another, from one meaning to another: each is answered by what the controller means before it.
+pub data Ran (ds : List Seat) : Meaning → List Event → Meaning → Type 0 where
+  none : (m : Meaning) → Ran ds m [] m
+  more : (m n l : Meaning) (e : Event) (es : List Event) → e.answer ≡ answer_of m ds e.call → Turns ds e.call m n → Ran ds n es l → Ran ds m (e ∷ es) l
 
 -- the calls of a list of events
 abbrev pub calls_in : List Event → List Call

@@ -7,9 +7,10 @@ ghost use Rattle.history.specs.Law.{answered};
 ghost use Rattle.history.specs.Own.{stands};
 ghost use Rattle.controller.specs.declared.call.Change.TheVariants.{Complete as Completed, Drive as Driven, Mask as Masked};
 ghost use Rattle.controller.specs.Calls.{outcome};
+ghost use Rattle.controller.specs.Meaning.{all_reset};
 ghost use Rattle.boards.specs.declared.device.DeviceFault.TheVariants.{NoRoute};
 ghost use Rattle.boards.specs.Boards.{Assembled, BoardLed, devices_in, meaning_in, record_in};
-ghost use Rattle.boards.specs.Devices.{answer_of, calls_in, device_refusal, done_or, offered, record_seen, seat_seen};
+ghost use Rattle.boards.specs.Devices.{Ran, Turns, answer_of, calls_in, device_refusal, done_or, offered, record_seen, seat_seen};
 ghost use Rattle.boards.specs.Seats.{no_seat, sense_at};
 
 use crate::device::{Device, DeviceFault};
@@ -76,6 +77,8 @@ impl<A: Controller, B: Controller, C: Controller, D: Controller> Board<A, B, C, 
         ensures devices { devices_in self.new ≡ devices_in self.old }
         ensures is { (h : List Happened) → BoardLed ⟦<Four<A, B, C, D> as Controller>⟧ self.old h
             → result ≡ outcome (device_refusal (Driven high) (meaning_in ⟦<Four<A, B, C, D> as Controller>⟧ self.old).lines (devices_in self.old) route) }
+        ensures steps { (h : List Happened) → BoardLed ⟦<Four<A, B, C, D> as Controller>⟧ self.old h
+            → Turns (devices_in self.old) (Drive route high) (meaning_in ⟦<Four<A, B, C, D> as Controller>⟧ self.old) (meaning_in ⟦<Four<A, B, C, D> as Controller>⟧ self.new) }
         ensures led { (h : List Happened) → BoardLed ⟦<Four<A, B, C, D> as Controller>⟧ self.old h
             → BoardLed ⟦<Four<A, B, C, D> as Controller>⟧ self.new (h ++ (answered (Drive route high) (done_or result) ∷ [])) }
     {
@@ -87,6 +90,8 @@ impl<A: Controller, B: Controller, C: Controller, D: Controller> Board<A, B, C, 
         ensures devices { devices_in self.new ≡ devices_in self.old }
         ensures is { (h : List Happened) → BoardLed ⟦<Four<A, B, C, D> as Controller>⟧ self.old h
             → result ≡ outcome (device_refusal (Masked on) (meaning_in ⟦<Four<A, B, C, D> as Controller>⟧ self.old).lines (devices_in self.old) route) }
+        ensures steps { (h : List Happened) → BoardLed ⟦<Four<A, B, C, D> as Controller>⟧ self.old h
+            → Turns (devices_in self.old) (Mask route on) (meaning_in ⟦<Four<A, B, C, D> as Controller>⟧ self.old) (meaning_in ⟦<Four<A, B, C, D> as Controller>⟧ self.new) }
         ensures led { (h : List Happened) → BoardLed ⟦<Four<A, B, C, D> as Controller>⟧ self.old h
             → BoardLed ⟦<Four<A, B, C, D> as Controller>⟧ self.new (h ++ (answered (Mask route on) (done_or result) ∷ [])) }
     {
@@ -98,6 +103,8 @@ impl<A: Controller, B: Controller, C: Controller, D: Controller> Board<A, B, C, 
         ensures devices { devices_in self.new ≡ devices_in self.old }
         ensures is { (h : List Happened) → BoardLed ⟦<Four<A, B, C, D> as Controller>⟧ self.old h
             → result ≡ outcome (device_refusal Completed (meaning_in ⟦<Four<A, B, C, D> as Controller>⟧ self.old).lines (devices_in self.old) route) }
+        ensures steps { (h : List Happened) → BoardLed ⟦<Four<A, B, C, D> as Controller>⟧ self.old h
+            → Turns (devices_in self.old) (Complete route) (meaning_in ⟦<Four<A, B, C, D> as Controller>⟧ self.old) (meaning_in ⟦<Four<A, B, C, D> as Controller>⟧ self.new) }
         ensures led { (h : List Happened) → BoardLed ⟦<Four<A, B, C, D> as Controller>⟧ self.old h
             → BoardLed ⟦<Four<A, B, C, D> as Controller>⟧ self.new (h ++ (answered (Complete route) (done_or result) ∷ [])) }
     {
@@ -109,6 +116,8 @@ impl<A: Controller, B: Controller, C: Controller, D: Controller> Board<A, B, C, 
         ensures devices { devices_in self.new ≡ devices_in self.old }
         ensures names { (h : List Happened) → BoardLed ⟦<Four<A, B, C, D> as Controller>⟧ self.old h
             → result ≡ offered (devices_in self.old) (meaning_in ⟦<Four<A, B, C, D> as Controller>⟧ self.old).offer }
+        ensures steps { (h : List Happened) → BoardLed ⟦<Four<A, B, C, D> as Controller>⟧ self.old h
+            → Turns (devices_in self.old) Claim (meaning_in ⟦<Four<A, B, C, D> as Controller>⟧ self.old) (meaning_in ⟦<Four<A, B, C, D> as Controller>⟧ self.new) }
         ensures led { (h : List Happened) → BoardLed ⟦<Four<A, B, C, D> as Controller>⟧ self.old h
             → BoardLed ⟦<Four<A, B, C, D> as Controller>⟧ self.new (h ++ (answered Claim (Named result) ∷ [])) }
     {
@@ -118,6 +127,8 @@ impl<A: Controller, B: Controller, C: Controller, D: Controller> Board<A, B, C, 
     // Makes the board clean: every device is as a reset leaves it, with its sense.
     pub fn reset(&mut self)
         ensures devices { devices_in self.new ≡ devices_in self.old }
+        ensures resets { (h : List Happened) → BoardLed ⟦<Four<A, B, C, D> as Controller>⟧ self.old h
+            → (meaning_in ⟦<Four<A, B, C, D> as Controller>⟧ self.new).lines ≡ all_reset (meaning_in ⟦<Four<A, B, C, D> as Controller>⟧ self.old).lines }
         ensures led { (h : List Happened) → BoardLed ⟦<Four<A, B, C, D> as Controller>⟧ self.old h
             → BoardLed ⟦<Four<A, B, C, D> as Controller>⟧ self.new [] }
     {
@@ -129,6 +140,8 @@ impl<A: Controller, B: Controller, C: Controller, D: Controller> Board<A, B, C, 
         ensures devices { devices_in self.new ≡ devices_in self.old }
         ensures is { (h : List Happened) → BoardLed ⟦<Four<A, B, C, D> as Controller>⟧ self.old h
             → result ≡ answer_of (meaning_in ⟦<Four<A, B, C, D> as Controller>⟧ self.old) (devices_in self.old) call }
+        ensures steps { (h : List Happened) → BoardLed ⟦<Four<A, B, C, D> as Controller>⟧ self.old h
+            → Turns (devices_in self.old) call (meaning_in ⟦<Four<A, B, C, D> as Controller>⟧ self.old) (meaning_in ⟦<Four<A, B, C, D> as Controller>⟧ self.new) }
         ensures led { (h : List Happened) → BoardLed ⟦<Four<A, B, C, D> as Controller>⟧ self.old h
             → BoardLed ⟦<Four<A, B, C, D> as Controller>⟧ self.new (h ++ (answered call result ∷ [])) }
     {
@@ -139,6 +152,8 @@ impl<A: Controller, B: Controller, C: Controller, D: Controller> Board<A, B, C, 
     pub fn run(&mut self, events: &mut [Event])
         ensures devices { devices_in self.new ≡ devices_in self.old }
         ensures calls { calls_in events.new ≡ calls_in events.old }
+        ensures ran { (h : List Happened) → BoardLed ⟦<Four<A, B, C, D> as Controller>⟧ self.old h
+            → Ran (devices_in self.old) (meaning_in ⟦<Four<A, B, C, D> as Controller>⟧ self.old) events.new (meaning_in ⟦<Four<A, B, C, D> as Controller>⟧ self.new) }
         ensures led { (h : List Happened) → BoardLed ⟦<Four<A, B, C, D> as Controller>⟧ self.old h
             → BoardLed ⟦<Four<A, B, C, D> as Controller>⟧ self.new (h ++ events.new) }
     {

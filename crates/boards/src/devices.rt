@@ -9,7 +9,7 @@ ghost use Rattle.controller.specs.Calls.{outcome};
 ghost use Rattle.controller.specs.Meaning.{all_reset};
 ghost use Rattle.boards.specs.declared.device.DeviceFault.TheVariants.{NoRoute};
 ghost use Rattle.boards.specs.Seats.{no_seat, line_at, seat, seats};
-ghost use Rattle.boards.specs.Devices.{Led, Opened, answer_of, called, calls_in, device_refusal, device_row, done_or, offered, record_seen, seat_seen, senses_set};
+ghost use Rattle.boards.specs.Devices.{Led, Opened, Ran, Turns, answer_of, called, calls_in, device_refusal, device_row, done_or, offered, record_seen, seat_seen, senses_set};
 
 use crate::device::{Device, DeviceFault};
 use arrayvec::ArrayVec;
@@ -89,6 +89,8 @@ impl<C: Controller> Devices<C> {
         ensures devices { self.new.devices ≡ self.old.devices }
         ensures is { (call : Called) (h : List Happened) → called change i ≡ Some call → Led C.Controller self.old.controller (seats self.old.devices) h
             → result ≡ outcome (device_refusal change (C.meaning self.old.controller).lines (seats self.old.devices) i) }
+        ensures steps { (call : Called) (h : List Happened) → called change i ≡ Some call → Led C.Controller self.old.controller (seats self.old.devices) h
+            → Turns (seats self.old.devices) call (C.meaning self.old.controller) (C.meaning self.new.controller) }
         ensures led { (call : Called) (h : List Happened) → called change i ≡ Some call → Led C.Controller self.old.controller (seats self.old.devices) h
             → Led C.Controller self.new.controller (seats self.new.devices) (h ++ (answered call (done_or result) ∷ [])) }
     {
@@ -104,6 +106,8 @@ impl<C: Controller> Devices<C> {
         ensures devices { self.new.devices ≡ self.old.devices }
         ensures is { (h : List Happened) → Led C.Controller self.old.controller (seats self.old.devices) h
             → result ≡ outcome (device_refusal (Driven high) (C.meaning self.old.controller).lines (seats self.old.devices) i) }
+        ensures steps { (h : List Happened) → Led C.Controller self.old.controller (seats self.old.devices) h
+            → Turns (seats self.old.devices) (Drive i high) (C.meaning self.old.controller) (C.meaning self.new.controller) }
         ensures led { (h : List Happened) → Led C.Controller self.old.controller (seats self.old.devices) h
             → Led C.Controller self.new.controller (seats self.new.devices) (h ++ (answered (Drive i high) (done_or result) ∷ [])) }
     {
@@ -115,6 +119,8 @@ impl<C: Controller> Devices<C> {
         ensures devices { self.new.devices ≡ self.old.devices }
         ensures is { (h : List Happened) → Led C.Controller self.old.controller (seats self.old.devices) h
             → result ≡ outcome (device_refusal (Masked on) (C.meaning self.old.controller).lines (seats self.old.devices) i) }
+        ensures steps { (h : List Happened) → Led C.Controller self.old.controller (seats self.old.devices) h
+            → Turns (seats self.old.devices) (Mask i on) (C.meaning self.old.controller) (C.meaning self.new.controller) }
         ensures led { (h : List Happened) → Led C.Controller self.old.controller (seats self.old.devices) h
             → Led C.Controller self.new.controller (seats self.new.devices) (h ++ (answered (Mask i on) (done_or result) ∷ [])) }
     {
@@ -126,6 +132,8 @@ impl<C: Controller> Devices<C> {
         ensures devices { self.new.devices ≡ self.old.devices }
         ensures is { (h : List Happened) → Led C.Controller self.old.controller (seats self.old.devices) h
             → result ≡ outcome (device_refusal Completed (C.meaning self.old.controller).lines (seats self.old.devices) i) }
+        ensures steps { (h : List Happened) → Led C.Controller self.old.controller (seats self.old.devices) h
+            → Turns (seats self.old.devices) (Complete i) (C.meaning self.old.controller) (C.meaning self.new.controller) }
         ensures led { (h : List Happened) → Led C.Controller self.old.controller (seats self.old.devices) h
             → Led C.Controller self.new.controller (seats self.new.devices) (h ++ (answered (Complete i) (done_or result) ∷ [])) }
     {
@@ -136,6 +144,7 @@ impl<C: Controller> Devices<C> {
     pub(crate) fn claim(&mut self) -> Option<usize>
         ensures devices { self.new.devices ≡ self.old.devices }
         ensures names { C.sound self.old.controller → result ≡ offered (seats self.old.devices) (C.meaning self.old.controller).offer }
+        ensures steps { C.sound self.old.controller → Turns (seats self.old.devices) Claim (C.meaning self.old.controller) (C.meaning self.new.controller) }
         ensures led { (h : List Happened) → Led C.Controller self.old.controller (seats self.old.devices) h
             → Led C.Controller self.new.controller (seats self.new.devices) (h ++ (answered Claim (Named result) ∷ [])) }
     {
@@ -146,6 +155,7 @@ impl<C: Controller> Devices<C> {
     // Resets every line; the senses stay.
     pub(crate) fn reset(&mut self)
         ensures devices { self.new.devices ≡ self.old.devices }
+        ensures resets { C.sound self.old.controller → (C.meaning self.new.controller).lines ≡ all_reset (C.meaning self.old.controller).lines }
         ensures led { (h : List Happened) → Led C.Controller self.old.controller (seats self.old.devices) h
             → Led C.Controller self.new.controller (seats self.new.devices) [] }
     {
@@ -157,6 +167,8 @@ impl<C: Controller> Devices<C> {
         ensures devices { self.new.devices ≡ self.old.devices }
         ensures is { (h : List Happened) → Led C.Controller self.old.controller (seats self.old.devices) h
             → result ≡ answer_of (C.meaning self.old.controller) (seats self.old.devices) call }
+        ensures steps { (h : List Happened) → Led C.Controller self.old.controller (seats self.old.devices) h
+            → Turns (seats self.old.devices) call (C.meaning self.old.controller) (C.meaning self.new.controller) }
         ensures led { (h : List Happened) → Led C.Controller self.old.controller (seats self.old.devices) h
             → Led C.Controller self.new.controller (seats self.new.devices) (h ++ (answered call result ∷ [])) }
     {
@@ -176,6 +188,8 @@ impl<C: Controller> Devices<C> {
     pub(crate) fn run(&mut self, events: &mut [Event])
         ensures devices { self.new.devices ≡ self.old.devices }
         ensures calls { calls_in events.new ≡ calls_in events.old }
+        ensures ran { (h : List Happened) → Led C.Controller self.old.controller (seats self.old.devices) h
+            → Ran (seats self.old.devices) (C.meaning self.old.controller) events.new (C.meaning self.new.controller) }
         ensures led { (h : List Happened) → Led C.Controller self.old.controller (seats self.old.devices) h
             → Led C.Controller self.new.controller (seats self.new.devices) (h ++ events.new) }
     {

@@ -1,6 +1,6 @@
 ghost use Rattle.std.specs.Prelude.{◌≡◌};
 ghost use Rattle.tree.specs.Reads.{nodes_of};
-ghost use Rattle.boards.specs.Boards.{BoardLed, BoardsLaw, Drawn, devices_in};
+ghost use Rattle.boards.specs.Boards.{AssembledRan, BoardLed, BoardsLaw, Drawn, devices_in};
 ghost use Rattle.boards.specs.Devices.{calls_in};
 
 use crate::board::Board;
@@ -32,6 +32,8 @@ pub fn compare<
     ensures law { BoardsLaw ⟦<Four<A, B, C, D> as Controller>⟧ result.0 old_events.new ⟦<Four<E, F, G, H> as Controller>⟧ result.1 new_events.new }
     ensures old_led { BoardLed ⟦<Four<A, B, C, D> as Controller>⟧ result.0 old_events.new }
     ensures new_led { BoardLed ⟦<Four<E, F, G, H> as Controller>⟧ result.1 new_events.new }
+    ensures old_ran { AssembledRan A.Controller B.Controller C.Controller D.Controller ⟦<Four<A, B, C, D> as Controller>⟧ (nodes_of old_tree.now) old_parts old_events.new result.0 }
+    ensures new_ran { AssembledRan E.Controller F.Controller G.Controller H.Controller ⟦<Four<E, F, G, H> as Controller>⟧ (nodes_of new_tree.now) new_parts new_events.new result.1 }
     ensures old { Drawn A.Controller B.Controller C.Controller D.Controller (nodes_of old_tree.now) old_parts (devices_in result.0) }
     ensures new { Drawn E.Controller F.Controller G.Controller H.Controller (nodes_of new_tree.now) new_parts (devices_in result.1) }
     ensures old_calls { calls_in old_events.new ≡ calls_in old_events.old }

@@ -3,6 +3,7 @@ use Rattle.std.specs.Prelude.{ℕ, ◌+◌, ◌-◌, ◌*◌, Bool, cond, not, �
 use Rattle.std.specs.Borrow.{Bor}
 use Rattle.std.specs.List.{prefix_len}
 use Rattle.cells.specs.declared.part.Part.{Part}
+use Rattle.cells.specs.declared.name.Name.{Name}
 
 -- the cell at byte offset i: 32 bits, most significant byte first
 abbrev pub cell : List ℕ → ℕ → ℕ
@@ -50,6 +51,20 @@ nonzero x = not (x == 0)
 -- how many bytes stand before the first zero byte
 abbrev pub leading_nonzero : List ℕ → ℕ
 leading_nonzero b = prefix_len nonzero b
+
+abbrev pub before_zero : List ℕ → List ℕ
+before_zero b = take (leading_nonzero b) b
+
+-- the bytes of a name, of which those from its place to the end of its block are given
+abbrev pub name_bytes : Name → List ℕ
+name_bytes n = before_zero n.rest.now
+
+abbrev pub named : Name → Piece
+named n = record { place = n.place.0; bytes = name_bytes n }
+
+abbrev pub name_seen : {F : Type 0} → Result Name F → Result Piece F
+name_seen (Ok n) = Ok (named n)
+name_seen (Err f) = Err f
 
 -- the length of the name at a in a block that ends at e
 abbrev pub name_size : List ℕ → ℕ → ℕ → ℕ

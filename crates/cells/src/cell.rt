@@ -1,6 +1,7 @@
-ghost use Rattle.std.specs.Prelude.{◌≡◌, ◌==◌, position};
-ghost use Rattle.cells.specs.Cells.{bytes_seen, cell_or, name_or, part_or, part_seen, rest_or};
+ghost use Rattle.std.specs.Prelude.{◌≡◌};
+ghost use Rattle.cells.specs.Cells.{bytes_seen, cell_or, name_or, name_seen, part_or, part_seen, rest_or};
 
+use super::name::{Name, first_zero, has_zero};
 use super::part::Part;
 use faults::place::Place;
 
@@ -52,11 +53,19 @@ impl<'a, F: Copy> Block<'a, F> {
             bytes: &rest[..size],
         })
     }
-}
 
-// Where the first zero byte stands.
-fn first_zero(bytes: &[u8]) -> Option<usize>
-    ensures { result ≡ position (λ byte. byte == 0) bytes.now }
-{
-    bytes.iter().position(|byte| *byte == 0)
+    // The name at `at`, left unread; its zero byte has to come before the block's end. The byte that stands `tried` bytes past `at` is
+    // looked at first: where it is zero, no other byte is read.
+    pub fn unread_name(&self, at: usize, tried: usize) -> Result<Name<'a>, F>
+        ensures { name_seen result ≡ name_or self.now.bytes.now at self.now.end self.now.past }
+    {
+        let rest = self.rest(at)?;
+        if !has_zero(rest, tried) {
+            return Err(self.past);
+        }
+        Ok(Name {
+            place: Place(at),
+            rest,
+        })
+    }
 }

@@ -4,4 +4,5 @@
 
 pub mod cell;
 pub mod header;
+pub mod name;
 pub mod part;

@@ -1,4 +1,1 @@
-pub mod OwnSteps
 pub mod Equals
-pub mod Numbers
-pub mod Lines

@@ -1,3 +1,1 @@
-pub mod Law
 pub mod Verdicts
-pub mod Lists

@@ -1,8 +1,8 @@
 // The text of the devices of both trees: how each stands on either board, the verdict, and for which the guest's timekeeping changed.
-use crate::law::{Past, applies};
 use crate::sides::Outcome;
 use crate::standing::{Name, Standing};
 use crate::verdict::Verdict;
+use board_text::law::{Past, applies};
 use history::call::Event;
 use std::alloc::Global;
 use std::io;

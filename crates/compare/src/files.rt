@@ -1,7 +1,7 @@
 // What the arguments ask for, read from its files.
 use crate::comparison::Comparison;
-use crate::events::{ListFault, list_of};
 use crate::sides::Side;
+use board_text::events::{ListFault, list_of};
 use history::call::Event;
 use std::{env, fs, io};
 
@@ -46,12 +46,9 @@ fn read(rt: &HostRuntime, name: &str) -> io::Result<Vec<u8>> {
 // The calls of a file, none of them answered.
 fn read_list(rt: &HostRuntime, name: &str) -> io::Result<Vec<Event>> {
     let bytes = read(rt, name)?;
-    match list_of(rt.alloc(), bytes.as_slice()) {
-        Ok(events) => Ok(events),
-        Err(ListFault::Line(number)) => {
-            eprintln!(rt; "compare: {name}, line {number}: not a call")?;
-            Err(io::Error::from(io::ErrorKind::InvalidData))
-        }
-        Err(ListFault::Memory) => Err(io::Error::from(io::ErrorKind::OutOfMemory)),
+    let list = list_of(rt.alloc(), bytes.as_slice());
+    if let Err(ListFault::Line(number)) = list {
+        eprintln!(rt; "compare: {name}, line {number}: not a call")?;
     }
+    Ok(list?)
 }

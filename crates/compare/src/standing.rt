@@ -1,5 +1,6 @@
 // How the devices of a board stand after a run.
 use crate::parts::AnyBoard;
+use board_text::text::{RecordText, SenseText};
 use history::call::Event;
 use history::device::{claims, kept_up};
 use line::row::{Row, Sense};
@@ -70,27 +71,14 @@ pub fn standings(
 
 impl fmt::Display for Standing {
     fn fmt<W: fmt::Write>(&self, f: &mut fmt::Formatter<W>) -> fmt::Result {
-        let sense = match self.sense {
-            Sense::Edge => "edge",
-            Sense::Following => "following",
-            Sense::Gated => "gated",
-        };
         let kept_up = if self.kept_up { "yes" } else { "no" };
-        let Row {
-            level,
-            request,
-            service,
-            mask,
-            ..
-        } = self.row;
         write!(
             f,
-            "{} {sense} claims {} kept {kept_up} record ",
-            self.route, self.claims
-        )?;
-        for bit in [level, request, service, mask] {
-            write!(f, "{}", u8::from(bit))?;
-        }
-        Ok(())
+            "{} {} claims {} kept {kept_up} record {}",
+            self.route,
+            SenseText(self.sense),
+            self.claims,
+            RecordText(self.row)
+        )
     }
 }

@@ -7,7 +7,7 @@ use Rattle.fdt.specs.declared.token.Token.TheVariants.{Open, Property, Close, No
 use Rattle.fdt.specs.declared.token.Step.{Step}
 use Rattle.faults.specs.declared.fault.TokenFault.{TokenFault}
 use Rattle.faults.specs.declared.fault.TokenFault.TheVariants.{Past}
-use Rattle.cells.specs.Cells.{Piece, piece, cell_or, part_or, name_or}
+use Rattle.cells.specs.Cells.{Piece, piece, named, cell_or, part_or, name_or}
 
 -- a token, with its name and value as pieces of the blob
 pub data Word : Type 0 where
@@ -19,7 +19,7 @@ pub data Word : Type 0 where
 
 abbrev pub word : Token → Word
 word (Open n) = opens (piece n)
-word (Property n v) = property (piece n) (piece v)
+word (Property n v) = property (named n) (piece v)
 word Close = closes
 word Nothing = nothing
 word End = ends

@@ -1,5 +1,5 @@
-ghost use Rattle.std.specs.Prelude.{◌≡◌, ℕ, ◌+◌, ◌^◌, ◌<◌, ◌≤◌, List, length, IfOk};
-ghost use Rattle.fdt.specs.Blobs.{SameFront, blob_of, blob_seen};
+ghost use Rattle.std.specs.Prelude.{◌≡◌, ℕ, ◌+◌, ◌^◌, ◌<◌, ◌≤◌, ◌==◌, List, length, position, reverse, IfOk};
+ghost use Rattle.fdt.specs.Blobs.{SameFront, blob_of, blob_seen, last_zero, strings_block};
 ghost use Rattle.fdt.specs.Items.{more};
 ghost use Rattle.fdt.specs.Reads.{token_of, tokens_of};
 ghost use Rattle.fdt.specs.Stands.{TokenStands};
@@ -18,6 +18,9 @@ use faults::place::Place;
 pub struct Blob<'a> {
     bytes: &'a [u8],
     header: Header,
+    // Where in the strings block its last zero byte stands: the names that begin there or before it end. It is kept so that one byte
+    // tells whether a property's name ends; no answer depends on it.
+    last_zero: usize,
 }
 
 impl<'a> Blob<'a> {
@@ -26,12 +29,16 @@ impl<'a> Blob<'a> {
     pub fn new(bytes: &'a [u8]) -> Result<Blob<'a>, HeaderFault>
         ensures is { blob_seen result ≡ blob_of bytes.now }
         ensures unread { (c : List ℕ) → SameFront bytes.now c → blob_seen result ≡ blob_of c }
+        ensures zero { IfOk result (λ b. b.last_zero ≡ last_zero (strings_block b.bytes.now b.header)) }
     {
         let header = Header::read(bytes)?;
-        let total = header.total as usize;
+        let bytes = &bytes[..header.total as usize];
+        let start = header.strings as usize;
+        let strings = &bytes[start..start + header.strings_size as usize];
         Ok(Blob {
-            bytes: &bytes[..total],
+            bytes,
             header,
+            last_zero: last_zero(strings),
         })
     }
 
@@ -127,12 +134,29 @@ impl<'a> Blob<'a> {
             end: start + self.header.strings_size as usize,
             ..block
         };
-        let name = strings.name(start + offset)?;
+        let name = strings.unread_name(start + offset, self.last_zero.saturating_sub(offset))?;
         Ok(Step {
             token: Token::Property(name, value),
             next: aligned(at + 12 + size),
         })
     }
+}
+
+// Where the last zero byte stands; 0 where there is none.
+fn last_zero(bytes: &[u8]) -> usize
+    ensures { result ≡ last_zero bytes.now }
+{
+    match after_last_zero(bytes) {
+        Some(after) => bytes.len() - 1 - after,
+        None => 0,
+    }
+}
+
+// How many bytes stand after the last zero byte.
+fn after_last_zero(bytes: &[u8]) -> Option<usize>
+    ensures { result ≡ position (λ byte. byte == 0) (reverse bytes.now) }
+{
+    bytes.iter().rev().position(|byte| *byte == 0)
 }
 
 // The place that is the next multiple of 4.

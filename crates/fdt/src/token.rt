@@ -1,11 +1,13 @@
+use cells::name::Name;
 use cells::part::Part;
 use faults::place::Place;
 
-// A token of the structure block; names and values are parts of the blob.
+// A token of the structure block; names and values are parts of the blob. The name of a property is left unread, since most callers
+// pass it over.
 #[derive(Clone, Copy, PartialEq, Eq, Debug)]
 pub enum Token<'a> {
     Open(Part<'a>),
-    Property(Part<'a>, Part<'a>),
+    Property(Name<'a>, Part<'a>),
     Close,
     Nothing,
     End,

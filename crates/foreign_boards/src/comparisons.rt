@@ -5,7 +5,8 @@ use crate::shapes::{
     all_four, chain, edge, fan, following, line_after, mux, one, room, three, under,
 };
 use crate::standing::{print_pairs, print_standings, standings};
-use crate::text::{AnswerText, CallText, print_question, print_routes};
+use crate::text::{print_question, print_routes};
+use board_text::text::{AnswerText, CallText};
 use boards::law::compare;
 use boards::parts::Parts;
 use cascade::pair::Cascade;

@@ -1,7 +1,8 @@
-// What is in data/: blobs, and lists of events, one a line: a letter and a route, 0 for a claim.
+// What is in data/: blobs, and lists of calls.
 use any_controller::any::AnyController;
+use board_text::events::list_of;
 use boards::parts::Parts;
-use history::call::{Answer, Call, Event};
+use history::call::Event;
 use kind_parts::of_plan::parts_of;
 use plan::tree_plan::Plan;
 use std::{fs, io};
@@ -34,29 +35,8 @@ pub fn asked_for(
 // The calls of a list. Each stands as an event that was done, until a board writes its answer.
 pub fn events(rt: &HostRuntime, name: &str) -> io::Result<Vec<Event>> {
     let name = format!(in rt.alloc(); "{name}.events")?;
-    let text = fs::read_to_string(rt, name.as_str())?;
-    let mut events = Vec::new(rt.alloc());
-    for line in text.lines() {
-        events.push(Event {
-            call: call_of(line).ok_or_else(|| unread())?,
-            answer: Answer::Done,
-        })?;
-    }
-    Ok(events)
-}
-
-fn call_of(line: &str) -> Option<Call> {
-    let (letter, route) = line.split_once(' ')?;
-    let route = route.parse::<usize>().ok()?;
-    match letter {
-        "H" => Some(Call::Drive(route, true)),
-        "L" => Some(Call::Drive(route, false)),
-        "M" => Some(Call::Mask(route, true)),
-        "U" => Some(Call::Mask(route, false)),
-        "C" => Some(Call::Claim),
-        "E" => Some(Call::Complete(route)),
-        _ => None,
-    }
+    let bytes = fs::read(rt, name.as_str())?;
+    Ok(list_of(rt.alloc(), bytes.as_slice())?)
 }
 
 // A file that is not as it is to be.

@@ -6,7 +6,8 @@ use crate::shapes::{
     three, two, under,
 };
 use crate::standing::{print_standings, standings};
-use crate::text::{AnswerText, CallText, OfferText, print_question, print_routes};
+use crate::text::{OfferText, print_question, print_routes};
+use board_text::text::{AnswerText, CallText};
 use boards::board::Board;
 use boards::parts::Parts;
 use history::call::Event;

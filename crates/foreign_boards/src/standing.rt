@@ -1,8 +1,9 @@
 // How the devices of a board stand after a list of events.
-use crate::text::SenseText;
+use board_text::law::{changes, own_steps};
+use board_text::text::{RecordText, SenseText};
 use boards::board::Board;
 use controller::interface::Controller;
-use history::call::{Answer, Call, Event};
+use history::call::Event;
 use history::device::{claims, kept_up};
 use line::row::{Row, Sense, Step};
 use std::alloc::{AllocError, Global};
@@ -33,39 +34,16 @@ pub fn standings<A: Controller, B: Controller, C: Controller, D: Controller>(
             continue;
         };
         let sense = device.route.sense;
-        let steps: Vec<Step> = events
-            .iter()
-            .filter_map(|event| own_step(i, event))
-            .collect(heap)?;
-        let changes: Vec<Step> = steps
-            .iter()
-            .copied()
-            .filter(|step| matches!(step, Step::Drive(_) | Step::Mask(_)))
-            .collect(heap)?;
         standings.push(Standing {
             sense,
             claims: claims(i, events),
             kept_up: kept_up(sense, i, events),
             record: Row::from(record),
-            steps,
-            changes,
+            steps: own_steps(heap, i, events)?,
+            changes: changes(heap, i, events)?,
         })?;
     }
     Ok(standings)
-}
-
-// The step that an event is for a device.
-fn own_step(device: usize, event: &Event) -> Option<Step> {
-    if let Answer::Refused(_) = event.answer {
-        return None;
-    }
-    match event.call {
-        Call::Drive(of, high) if of == device => Some(Step::Drive(high)),
-        Call::Mask(of, on) if of == device => Some(Step::Mask(on)),
-        Call::Complete(of) if of == device => Some(Step::Complete),
-        Call::Claim if event.answer == Answer::Named(Some(device)) => Some(Step::Claim),
-        _ => None,
-    }
 }
 
 // A line for each device.
@@ -79,23 +57,13 @@ pub fn print_standings(rt: &HostRuntime, side: &str, standings: &[Standing]) -> 
 impl fmt::Display for Standing {
     fn fmt<W: fmt::Write>(&self, f: &mut fmt::Formatter<W>) -> fmt::Result {
         let kept_up = if self.kept_up { "yes" } else { "no" };
-        let Row {
-            level,
-            request,
-            service,
-            mask,
-            ..
-        } = self.record;
         write!(
             f,
-            "{} claims {} kept {kept_up} record ",
+            "{} claims {} kept {kept_up} record {}",
             SenseText(self.sense),
-            self.claims
-        )?;
-        for bit in [level, request, service, mask] {
-            write!(f, "{}", u8::from(bit))?;
-        }
-        Ok(())
+            self.claims,
+            RecordText(self.record)
+        )
     }
 }
 

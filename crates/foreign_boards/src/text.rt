@@ -1,12 +1,11 @@
-// The text of questions, routes, calls and answers.
+// The text of questions, routes and offers.
 use crate::make::Make;
+use board_text::text::SenseText;
 use boards::board::Board;
 use boards::device::Device;
 use boards::parts::Parts;
 use controller::interface::Controller;
 use faults::report::Report;
-use history::call::{Answer, Call};
-use line::row::Sense;
 use std::{fmt, io};
 use tree::tree::Tree;
 
@@ -70,52 +69,6 @@ impl fmt::Display for Place {
             route.spot.input,
             SenseText(route.sense)
         )
-    }
-}
-
-#[derive(Drop)]
-pub struct SenseText(pub Sense);
-
-impl fmt::Display for SenseText {
-    fn fmt<W: fmt::Write>(&self, f: &mut fmt::Formatter<W>) -> fmt::Result {
-        let word = match self.0 {
-            Sense::Edge => "edge",
-            Sense::Following => "following",
-            Sense::Gated => "gated",
-        };
-        write!(f, "{word}")
-    }
-}
-
-// A call as a list has it.
-#[derive(Drop)]
-pub struct CallText(pub Call);
-
-impl fmt::Display for CallText {
-    fn fmt<W: fmt::Write>(&self, f: &mut fmt::Formatter<W>) -> fmt::Result {
-        let (letter, route) = match self.0 {
-            Call::Drive(route, true) => ('H', route),
-            Call::Drive(route, false) => ('L', route),
-            Call::Mask(route, true) => ('M', route),
-            Call::Mask(route, false) => ('U', route),
-            Call::Claim => ('C', 0),
-            Call::Complete(route) => ('E', route),
-        };
-        write!(f, "{letter} {route}")
-    }
-}
-
-#[derive(Drop)]
-pub struct AnswerText(pub Answer);
-
-impl fmt::Display for AnswerText {
-    fn fmt<W: fmt::Write>(&self, f: &mut fmt::Formatter<W>) -> fmt::Result {
-        match self.0 {
-            Answer::Done => write!(f, "done"),
-            Answer::Named(Some(route)) => write!(f, "named {route}"),
-            Answer::Named(None) => write!(f, "none"),
-            Answer::Refused(number) => write!(f, "refused {number}"),
-        }
     }
 }
 

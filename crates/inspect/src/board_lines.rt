@@ -1,7 +1,7 @@
 // The board that a tree makes, or why it makes none.
+use board_text::text::SenseText;
 use faults::report::Report;
 use kinds::kind::Kind;
-use line::row::Sense;
 use listing::path::Path;
 use listing::stop::Stop;
 use plan::placed::{Controller, Parent};
@@ -78,20 +78,18 @@ fn device_line(
     number: usize,
     route: &Route,
 ) -> Result<String, AllocError> {
-    let sense = match route.sense {
-        Sense::Edge => "edge",
-        Sense::Following => "following",
-        Sense::Gated => "gated",
-    };
     let Route {
         device,
         index,
         spot,
+        sense,
         ..
     } = *route;
     let line = plan.line(spot).unwrap_or(0);
     format!(in heap;
-        "device {number} node {device} specifier {index} controller {} input {} line {line} sense {sense} ",
-        spot.controller, spot.input
+        "device {number} node {device} specifier {index} controller {} input {} line {line} sense {} ",
+        spot.controller,
+        spot.input,
+        SenseText(sense)
     )
 }

@@ -1,5 +1,6 @@
 // Where each interrupt of a tree ends.
 use faults::report::Report;
+use indexed::Indexed;
 use listing::path::Path;
 use listing::stop::Stop;
 use route_text::{route_end, route_text};
@@ -24,11 +25,12 @@ pub fn list_routes<'a>(heap: Global, tree: &Tree<'a>) -> Result<Vec<u8>, Stop> {
         routes: 0,
         refused: 0,
     };
+    let indexed = Indexed::of(tree);
     let mut path = Path::new(heap);
     for node in tree.nodes() {
         let node = node?;
         path.enter(&node)?;
-        lines.add(heap, tree, &node, &path)?;
+        lines.add(heap, &indexed, &node, &path)?;
     }
     let RouteLines {
         mut text,
@@ -45,13 +47,13 @@ impl RouteLines {
     fn add<'a>(
         &mut self,
         heap: Global,
-        tree: &Tree<'a>,
+        indexed: &Indexed<'a>,
         node: &Node<'a>,
         path: &Path<'a>,
     ) -> Result<(), Stop> {
         // `zip`, since `enumerate` asks for a bound on how many there are.
-        for (index, specifier) in (0usize..).zip(specifiers(tree, node)) {
-            match route_end(tree, specifier) {
+        for (index, specifier) in (0usize..).zip(specifiers(indexed, node)) {
+            match route_end(indexed, specifier) {
                 Ok(route) => {
                     let text = route_text(heap, &route)?;
                     let line = format!(in heap; "route {} {index}{text} ", node.place)?;

@@ -9,36 +9,40 @@ ghost use Rattle.values.specs.Values.{node_option, place_in};
 
 use faults::fault::RouteFault;
 use faults::place::At;
+use indexed::Indexed;
 use nodes::parent;
 use tree::node::Node;
-use tree::tree::Tree;
-use values::property::{cell_in, has, node_of};
+use values::property::{cell_in, has};
 
 // How many candidates are looked at.
 const CANDIDATES: usize = 64;
 
 // The node with the phandle in `interrupt-parent`, or without one the parent in the tree; none at the root.
-fn candidate<'a>(tree: &Tree<'a>, node: &Node<'a>) -> Result<Option<Node<'a>>, RouteFault>
-    ensures { node_option tree.now result ≡ candidate (nodes_of tree.now) (entry_in tree.now node.now) }
+fn candidate<'a>(indexed: &Indexed<'a>, node: &Node<'a>) -> Result<Option<Node<'a>>, RouteFault>
+    ensures { node_option indexed.now.tree result ≡ candidate (nodes_of indexed.now.tree) (entry_in indexed.now.tree node.now) }
 {
+    let tree = &indexed.tree;
     match cell_in(tree, node, b"interrupt-parent", 0..=u32::MAX)? {
         None => Ok(parent(tree, node)?),
         Some(cell) => {
             let holder = At::new(node.place, cell.property);
-            Ok(Some(node_of(tree, cell.value, holder)?))
+            Ok(Some(indexed.node_of(cell.value, holder)?))
         }
     }
 }
 
 // The interrupt parent of a device; 8 and 12 for an `interrupt-parent`, 13 where there is none among 64 candidates.
 #[tactic(auto, using(crate::proofs::Further::looked_once, crate::proofs::Further::looked_at_all), unfolding(crate::specs::Parents::interrupt_parent))]
-pub fn interrupt_parent<'a>(tree: &Tree<'a>, device: &Node<'a>) -> Result<Node<'a>, RouteFault>
-    ensures { place_in tree.now result ≡ interrupt_parent (nodes_of tree.now) (entry_in tree.now device.now) }
+pub fn interrupt_parent<'a>(
+    indexed: &Indexed<'a>,
+    device: &Node<'a>,
+) -> Result<Node<'a>, RouteFault>
+    ensures { place_in indexed.now.tree result ≡ interrupt_parent (nodes_of indexed.now.tree) (entry_in indexed.now.tree device.now) }
 {
     let mut at = *device;
     for _looked in 0..CANDIDATES {
-        at = candidate(tree, &at)?.ok_or(RouteFault::NoParent(device.place))?;
-        if has(tree, &at, b"#interrupt-cells")? {
+        at = candidate(indexed, &at)?.ok_or(RouteFault::NoParent(device.place))?;
+        if has(&indexed.tree, &at, b"#interrupt-cells")? {
             return Ok(at);
         }
     }

@@ -25,16 +25,6 @@ pub record RowSeen : Type 0 where
   pub specifier : List ℕ
   pub size : ℕ
 
-abbrev pub row_in : Tree → Result MapRow RouteFault → Result RowSeen RouteFault
-row_in t (Ok r) = Ok (record {
-  child = cells_in r.child;
-  parent = entry_in t r.taken.parent;
-  unit = cells_in r.taken.unit;
-  specifier = cells_in r.taken.specifier;
-  size = r.size;
-})
-row_in t (Err f) = Err f
-
 -- the row at the front of the cells, by its parent and the parent's counts
 abbrev pub row_of : ℕ → List ℕ → Entry → Counts → RowSeen
 row_of width rest p c = record {
@@ -55,6 +45,37 @@ abbrev pub row_at : List Listed → Ready → List ℕ → Result RowSeen RouteF
 row_at es n rest =
     cond (nat_lt n.width (length rest))
     (after (node_of es (slice_index rest n.width) n.holder) (λ p. after (counts_of p) (row_by n rest p)))
+    (Err (Row n.holder))
+
+-- a row but for its parent, of which the counts alone are asked
+pub record Shape : Type 0 where
+  pub child : List ℕ
+  pub unit : List ℕ
+  pub specifier : List ℕ
+  pub size : ℕ
+
+abbrev pub shape_in : Result MapRow RouteFault → Result Shape RouteFault
+shape_in (Ok r) = Ok (record { child = cells_in r.child; unit = cells_in r.unit; specifier = cells_in r.specifier; size = r.size })
+shape_in (Err f) = Err f
+
+abbrev pub shape_of : ℕ → List ℕ → Counts → Shape
+shape_of width rest c = record {
+  child = take width rest;
+  unit = take c.address (drop (width + 1) rest);
+  specifier = take c.interrupt (drop c.address (drop (width + 1) rest));
+  size = width + 1 + c.address + c.interrupt;
+}
+
+abbrev pub shape_by : Ready → List ℕ → Counts → Result Shape RouteFault
+shape_by n rest c =
+    cond (nat_le (c.address + c.interrupt) (length (drop (n.width + 1) rest)))
+    (Ok (shape_of n.width rest c)) (Err (Row n.holder))
+
+-- the row at the front but for its parent
+abbrev pub shape_at : List Listed → Ready → List ℕ → Result Shape RouteFault
+shape_at es n rest =
+    cond (nat_lt n.width (length rest))
+    (after (after (node_of es (slice_index rest n.width) n.holder) counts_of) (shape_by n rest))
     (Err (Row n.holder))
 
 -- the row that is taken: its number, its parent, and the unit address and the specifier that it gives

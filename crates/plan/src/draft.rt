@@ -12,12 +12,12 @@ use arrayvec::ArrayVec;
 use board_faults::BoardFault;
 use faults::fault::RouteFault;
 use faults::place::{At, Place};
+use indexed::Indexed;
 use routing::route;
 use search::keyed::first_match;
 use specifiers::Specifier;
 use specifiers::list::specifiers;
 use tree::node::Node;
-use tree::tree::Tree;
 
 // The controllers of a tree, and what its specifiers, read so far in blob order, make of it: the controllers' parents, the routes, and the
 // first specifier that ends where one before it does.
@@ -48,30 +48,30 @@ impl<'a> Draft<'a> {
     }
 
     // Reads every specifier of a tree: its route's faults, 8 and 12 to 18, 19 where it names no input, 20 for a 257th route.
-    pub(crate) fn read(&mut self, tree: &Tree<'a>) -> Result<(), BoardFault>
-        ensures { drawn_seen self.new result ≡ drawn_from (nodes_of tree.now) (drawn self.old) (nodes_of tree.now) }
+    pub(crate) fn read(&mut self, indexed: &Indexed<'a>) -> Result<(), BoardFault>
+        ensures { drawn_seen self.new result ≡ drawn_from (nodes_of indexed.now.tree) (drawn self.old) (nodes_of indexed.now.tree) }
     {
-        for node in tree.nodes() {
-            self.read_node(tree, &node?)?;
+        for node in indexed.tree.nodes() {
+            self.read_node(indexed, &node?)?;
         }
         Ok(())
     }
 
     // Reads the specifiers of a node.
-    fn read_node(&mut self, tree: &Tree<'a>, node: &Node<'a>) -> Result<(), BoardFault>
-        ensures { drawn_seen self.new result ≡ node_drawn (nodes_of tree.now) (drawn self.old) (specifiers_of (nodes_of tree.now) (entry_in tree.now node.now)) }
+    fn read_node(&mut self, indexed: &Indexed<'a>, node: &Node<'a>) -> Result<(), BoardFault>
+        ensures { drawn_seen self.new result ≡ node_drawn (nodes_of indexed.now.tree) (drawn self.old) (specifiers_of (nodes_of indexed.now.tree) (entry_in indexed.now.tree node.now)) }
     {
-        for specifier in specifiers(tree, node) {
-            self.add(tree, &specifier?)?;
+        for specifier in specifiers(indexed, node) {
+            self.add(indexed, &specifier?)?;
         }
         Ok(())
     }
 
     // Adds a specifier: to its controller where it is a controller's, else to the routes.
-    fn add(&mut self, tree: &Tree<'a>, specifier: &Specifier<'a>) -> Result<(), BoardFault>
-        ensures { drawn_seen self.new result ≡ added (nodes_of tree.now) (drawn self.old) (specified tree.now specifier.now) }
+    fn add(&mut self, indexed: &Indexed<'a>, specifier: &Specifier<'a>) -> Result<(), BoardFault>
+        ensures { drawn_seen self.new result ≡ added (nodes_of indexed.now.tree) (drawn self.old) (specified indexed.now.tree specifier.now) }
     {
-        let end = self.end(tree, specifier)?;
+        let end = self.end(indexed, specifier)?;
         self.note(&end);
         match self.number_of(specifier.device.place) {
             Some(k) => {
@@ -97,10 +97,10 @@ impl<'a> Draft<'a> {
     }
 
     // Where a specifier ends. A route ends at a node with `interrupt-controller`, and each of these is in the table.
-    fn end(&self, tree: &Tree<'a>, specifier: &Specifier<'a>) -> Result<End, BoardFault>
-        ensures { end_seen result ≡ end_of (nodes_of tree.now) (drawn self.now).controllers (specified tree.now specifier.now) }
+    fn end(&self, indexed: &Indexed<'a>, specifier: &Specifier<'a>) -> Result<End, BoardFault>
+        ensures { end_seen result ≡ end_of (nodes_of indexed.now.tree) (drawn self.now).controllers (specified indexed.now.tree specifier.now) }
     {
-        let found = route(tree, specifier)?;
+        let found = route(indexed, specifier)?;
         let missing = RouteFault::NoEnd(At::missing(found.controller.place));
         let k = self.number_of(found.controller.place).ok_or(missing)?;
         let controller = self.controller(k).ok_or(missing)?;

@@ -12,6 +12,7 @@ use crate::reading::controllers;
 use crate::route::Route;
 use arrayvec::ArrayVec;
 use board_faults::BoardFault;
+use indexed::Indexed;
 use tree::tree::Tree;
 
 // The plan of a tree: its controllers in blob order, their numbers in the order of placing, and the routes of its devices in blob order.
@@ -30,7 +31,8 @@ impl<'a> Plan<'a> {
         ensures rules { IfOk result (λ p. PlanRules (planned p)) }
     {
         let mut draft = Draft::new(controllers(tree)?);
-        draft.read(tree)?;
+        let indexed = Indexed::of(tree);
+        draft.read(&indexed)?;
         let placing = Placing::all(draft.controllers)?;
         if let Some(holder) = draft.second {
             return Err(BoardFault::Second(holder));

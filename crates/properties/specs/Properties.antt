@@ -4,7 +4,7 @@ use Rattle.std.specs.Str.{bytes_eq}
 use Rattle.properties.specs.declared.Property.{Property}
 use Rattle.cells.specs.declared.header.Header.{Header}
 use Rattle.faults.specs.declared.fault.TokenFault.{TokenFault}
-use Rattle.cells.specs.Cells.{Piece, piece}
+use Rattle.cells.specs.Cells.{Piece, piece, named}
 use Rattle.fdt.specs.Tokens.{opens, property, closes, nothing, ends, ending}
 use Rattle.fdt.specs.Items.{Item, item, bad}
 
@@ -16,7 +16,7 @@ pub record Owned : Type 0 where
   pub next : ℕ
 
 abbrev pub owned : Property → Owned
-owned p = record { place = p.place.0; name = piece p.name; value = piece p.value; next = p.next.0 }
+owned p = record { place = p.place.0; name = named p.name; value = piece p.value; next = p.next.0 }
 
 abbrev pub option_seen : Option Property → Option Owned
 option_seen None = None

@@ -6,6 +6,7 @@ ghost use Rattle.std.specs.Prelude.{◌≡◌};
 ghost use Rattle.fdt.specs.Reads.{tokens_of};
 ghost use Rattle.properties.specs.Properties.{PropertyGoes, first_property, property_seen, sought};
 
+use cells::name::Name;
 use cells::part::Part;
 use faults::fault::TokenFault;
 use faults::place::Place;
@@ -17,7 +18,7 @@ use fdt::token::Token;
 #[derive(Clone, Copy, PartialEq, Eq, Debug)]
 pub struct Property<'a> {
     pub place: Place,
-    pub name: Part<'a>,
+    pub name: Name<'a>,
     pub value: Part<'a>,
     pub next: Place,
 }
@@ -82,7 +83,7 @@ pub fn look_ahead<'a>(
         let step = blob.token_at(at)?;
         guard.cursor.place = step.next;
         match step.token {
-            Token::Property(found, value) if found.bytes == name => {
+            Token::Property(found, value) if found.is(name) => {
                 return Ok(Some(Property {
                     place: at,
                     name: found,

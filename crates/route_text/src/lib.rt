@@ -13,11 +13,11 @@ ghost use Rattle.route_text.specs.Ends.{end_of};
 ghost use Rattle.route_text.specs.Texts.{route_text, via_text};
 
 use faults::fault::RouteFault;
+use indexed::Indexed;
 use routing::route;
 use specifiers::Specifier;
 use std::alloc::{AllocError, Global};
 use std::fmt::Write;
-use tree::tree::Tree;
 use walk::hops::Hops;
 use walk::steps::Route;
 
@@ -50,10 +50,10 @@ fn via_text(heap: Global, hops: &Hops) -> Result<String, AllocError>
 
 // Where an item of a node's specifiers ends: the fault of one that could not be cut is its own.
 pub fn route_end<'a>(
-    tree: &Tree<'a>,
+    indexed: &Indexed<'a>,
     specifier: Result<Specifier<'a>, RouteFault>,
 ) -> Result<Route<'a>, RouteFault>
-    ensures { route_in tree.now result ≡ end_of (nodes_of tree.now) (specified_in tree.now specifier.entry) }
+    ensures { route_in indexed.now.tree result ≡ end_of (nodes_of indexed.now.tree) (specified_in indexed.now.tree specifier.entry) }
 {
-    route(tree, &specifier?)
+    route(indexed, &specifier?)
 }

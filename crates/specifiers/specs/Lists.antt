@@ -10,11 +10,11 @@ use Rattle.specifiers.specs.Specifiers.{Specified, specified, uncut_in}
 
 -- the tree whose specifiers they are
 abbrev pub tree_of : SpecifierList → Tree
-tree_of l = l.tree
+tree_of l = l.indexed.now.tree
 
 -- the specifiers that are left, in order; the last may be a fault
 abbrev pub list_left : SpecifierList → List (Result Specified RouteFault)
-list_left l = specifiers_by (nodes_of l.tree) (uncut_in l.tree l.left)
+list_left l = specifiers_by (nodes_of (tree_of l)) (uncut_in (tree_of l) l.left)
 
 abbrev pub specified_in : Tree → Result Specifier RouteFault → Result Specified RouteFault
 specified_in t (Ok s) = Ok (specified t s)

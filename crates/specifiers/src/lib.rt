@@ -11,11 +11,11 @@ ghost use Rattle.tree.specs.Reads.{entry_in, nodes_of};
 use cell_list::CellList;
 use faults::fault::RouteFault;
 use faults::place::{At, Place};
+use indexed::Indexed;
 use interrupt_parent::interrupt_parent;
 use tree::node::Node;
-use tree::tree::Tree;
 use values::counts::interrupt_cells;
-use values::property::{cells_in, node_of};
+use values::property::cells_in;
 
 pub mod list;
 
@@ -57,17 +57,18 @@ struct Head<'a> {
 // The specifiers of a device, none where no property or an empty one counts. 8 for a length that is no multiple of 4; for
 // `interrupts` then the interrupt parent's faults, 8, 12 and 13. A fault belongs to the index 0.
 pub fn specifiers_of<'a>(
-    tree: &Tree<'a>,
+    indexed: &Indexed<'a>,
     device: &Node<'a>,
 ) -> Result<Option<Specifiers<'a>>, RouteFault>
-    ensures { uncut_in tree.now result ≡ specifiers_from (nodes_of tree.now) (entry_in tree.now device.now) }
+    ensures { uncut_in indexed.now.tree result ≡ specifiers_from (nodes_of indexed.now.tree) (entry_in indexed.now.tree device.now) }
 {
+    let tree = &indexed.tree;
     let (found, parent) = match cells_in(tree, device, b"interrupts-extended")? {
         Some(found) => (found, None),
         None => match cells_in(tree, device, b"interrupts")? {
             Some(found) if !found.value.is_empty() => (
                 found,
-                Some(interrupt_parent(tree, device)?),
+                Some(interrupt_parent(indexed, device)?),
             ),
             Some(_) | None => return Ok(None),
         },
@@ -89,18 +90,18 @@ pub fn specifiers_of<'a>(
 // specifier.
 #[tactic(auto, using(crate::proofs::Cutting::specifiers_is))]
 pub fn next_specifier<'a>(
-    tree: &Tree<'a>,
+    indexed: &Indexed<'a>,
     from: &Specifiers<'a>,
 ) -> Result<Option<Cut<'a>>, RouteFault>
-    ensures is { cut_in tree.now result ≡ next_specifier (nodes_of tree.now) (uncut tree.now from.now) }
+    ensures is { cut_in indexed.now.tree result ≡ next_specifier (nodes_of indexed.now.tree) (uncut indexed.now.tree from.now) }
     ensures goes { CutGoes (length (numbers from.now.left)) result }
-    ensures rest { specifiers_in (nodes_of tree.now) (uncut tree.now from.now) ≡ cuts_by (specifiers_in (nodes_of tree.now)) (cut_in tree.now result) }
+    ensures rest { specifiers_in (nodes_of indexed.now.tree) (uncut indexed.now.tree from.now) ≡ cuts_by (specifiers_in (nodes_of indexed.now.tree)) (cut_in indexed.now.tree result) }
 {
     if from.left.is_empty() {
         return Ok(None);
     }
-    let head = head_of(tree, from)?;
-    let count = interrupt_cells(tree, &head.parent)?;
+    let head = head_of(indexed, from)?;
+    let count = interrupt_cells(&indexed.tree, &head.parent)?;
     if head.cells.len() < count {
         return Err(RouteFault::Short(At::new(from.device.place, from.property)));
     }
@@ -120,8 +121,8 @@ pub fn next_specifier<'a>(
 }
 
 // Where the next specifier arrives first: at the interrupt parent, or at the node of the phandle before it.
-fn head_of<'a>(tree: &Tree<'a>, from: &Specifiers<'a>) -> Result<Head<'a>, RouteFault>
-    ensures { head_in tree.now result ≡ head_of (nodes_of tree.now) (uncut tree.now from.now) }
+fn head_of<'a>(indexed: &Indexed<'a>, from: &Specifiers<'a>) -> Result<Head<'a>, RouteFault>
+    ensures { head_in indexed.now.tree result ≡ head_of (nodes_of indexed.now.tree) (uncut indexed.now.tree from.now) }
 {
     match from.parent {
         Some(parent) => Ok(Head {
@@ -131,7 +132,7 @@ fn head_of<'a>(tree: &Tree<'a>, from: &Specifiers<'a>) -> Result<Head<'a>, Route
         None => {
             let holder = At::new(from.device.place, from.property);
             Ok(Head {
-                parent: node_of(tree, from.left.cell(0), holder)?,
+                parent: indexed.node_of(from.left.cell(0), holder)?,
                 cells: from.left.rest(1),
             })
         }

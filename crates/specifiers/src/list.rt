@@ -6,29 +6,29 @@ ghost use Rattle.tree.specs.Reads.{entry_in, nodes_of};
 
 use crate::{Specifier, Specifiers, next_specifier, specifiers_of};
 use faults::fault::RouteFault;
+use indexed::Indexed;
 use std::mem;
 use tree::node::Node;
-use tree::tree::Tree;
 
 // The specifiers of a device that are left, in order; a fault is the last item. What is left is what is not cut yet, or the fault.
 #[derive(Drop)]
-pub struct SpecifierList<'a> {
-    tree: Tree<'a>,
+pub struct SpecifierList<'t, 'a> {
+    indexed: &'t Indexed<'a>,
     left: Result<Option<Specifiers<'a>>, RouteFault>,
 }
 
 // The specifiers of a device. A fault of its properties or of its interrupt parent is the one item.
-pub fn specifiers<'a>(tree: &Tree<'a>, device: &Node<'a>) -> SpecifierList<'a>
-    ensures list { list_left result ≡ all_specifiers (nodes_of tree.now) (entry_in tree.now device.now) }
-    ensures tree { tree_of result ≡ tree.now }
+pub fn specifiers<'t, 'a>(indexed: &'t Indexed<'a>, device: &Node<'a>) -> SpecifierList<'t, 'a>
+    ensures list { list_left result ≡ all_specifiers (nodes_of indexed.now.tree) (entry_in indexed.now.tree device.now) }
+    ensures tree { tree_of result ≡ indexed.now.tree }
 {
     SpecifierList {
-        tree: *tree,
-        left: specifiers_of(tree, device),
+        indexed,
+        left: specifiers_of(indexed, device),
     }
 }
 
-impl<'a> Iterator for SpecifierList<'a> {
+impl<'a> Iterator for SpecifierList<'_, 'a> {
     type Item = Result<Specifier<'a>, RouteFault>;
 
     ghost next_gives = { λ s r t. (tree_of t ≡ tree_of s) × YieldsFirstBy (specified_in (tree_of s)) list_left s r t };
@@ -38,7 +38,7 @@ impl<'a> Iterator for SpecifierList<'a> {
     fn next(&mut self) -> Option<Result<Specifier<'a>, RouteFault>> {
         match mem::replace(&mut self.left, Ok(None)) {
             Ok(None) => None,
-            Ok(Some(from)) => match next_specifier(&self.tree, &from) {
+            Ok(Some(from)) => match next_specifier(self.indexed, &from) {
                 Ok(None) => None,
                 Ok(Some(cut)) => {
                     self.left = Ok(Some(cut.rest));

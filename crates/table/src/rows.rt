@@ -3,7 +3,7 @@ ghost use Rattle.search.specs.First.{first};
 ghost use Rattle.line.specs.declared.record.Line.{Line};
 ghost use Rattle.line.specs.declared.row.Row.{Row};
 ghost use Rattle.line.specs.declared.row.Step.TheVariants.{Claim};
-ghost use Rattle.line.specs.Rows.{fresh};
+ghost use Rattle.line.specs.Rows.{fresh, made, waits};
 ghost use Rattle.line.specs.Lines.{row_of};
 ghost use Rattle.controller.specs.Calls.{record_seen};
 ghost use Rattle.controller.specs.Meaning.{all_reset, at, record_at, step_at};
@@ -53,14 +53,14 @@ impl Table {
     pub fn waits(&self, i: usize) -> bool
         ensures { result ≡ ready (at (table_lines self.now) i) }
     {
-        self.line(i).is_ok_and(|line| line.waits())
+        self.lines().get(i).is_some_and(row_waits)
     }
 
     // Whether a line is in service; past the last line none is.
     pub fn serves(&self, i: usize) -> bool
         ensures { result ≡ serving (at (table_lines self.now) i) }
     {
-        self.line(i).is_ok_and(|line| line.serves())
+        self.lines().get(i).is_some_and(|row| row.service)
     }
 
     // The lowest-numbered line whose record passes a test.
@@ -117,4 +117,15 @@ impl Table {
     {
         self.rows[i] = new.into();
     }
+}
+
+// Whether the line that a row makes waits. It is told of the row, since an offer asks it of every line and most are masked or rest.
+fn row_waits(row: &Row) -> bool
+    ensures { result ≡ waits (made row.now) }
+{
+    let requested = match row.sense {
+        Sense::Following => row.level,
+        Sense::Edge | Sense::Gated => row.request,
+    };
+    !row.mask && !row.service && requested
 }

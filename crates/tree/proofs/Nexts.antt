@@ -1,6 +1,6 @@
 -- The first node of the tokens from a place on: its tokens are those from its body on, it lies in the structure block, and its body
 -- past that place.
-use Rattle.std.proofs.Common.{◌≡◌, ℕ, zero, suc, ◌+◌, ◌-◌, ◌<◌, ◌≤◌, Bool, true, false, cond, List, [], ◌∷◌, Ok, Err, Result, nat_le, sym, refl, ap, ◌∙◌, arith}
+use Rattle.std.proofs.Common.{◌≡◌, ℕ, zero, suc, ◌+◌, ◌-◌, ◌<◌, ◌≤◌, Bool, true, false, cond, List, [], ◌∷◌, Some, Ok, Err, Result, nat_le, sym, refl, ap, ◌∙◌, arith}
 use Rattle.cells.specs.declared.header.Header.{Header}
 use Rattle.faults.specs.declared.fault.TokenFault.{TokenFault}
 use Rattle.faults.specs.declared.fault.TokenFault.TheVariants.{Depth}
@@ -8,7 +8,7 @@ use Rattle.cells.specs.Cells.{Piece}
 use Rattle.fdt.specs.Tokens.{Word, opens, property, closes, nothing, ends, at, token_at, ending}
 use Rattle.fdt.specs.Items.{items, more}
 use Rattle.fdt.proofs.Onward.{goes_on, items_is}
-use Rattle.tree.specs.Nodes.{Entry, Listed, listed, broken, nodes}
+use Rattle.tree.specs.Nodes.{Entry, Listed, listed, broken, first_node, nodes}
 
 module _ (b : List ℕ) (h : Header) (e : Entry) (es : List Listed) where
   abbrev Goes : ℕ → Type 0
@@ -64,3 +64,42 @@ module _ (b : List ℕ) (h : Header) (e : Entry) (es : List Listed) where
 
   pub first_listed : (d i : ℕ) → nodes d (items b h i) ≡ listed e ∷ es → Goes i
   first_listed d i q = within (suc (ending h - i)) d i (omega arith) q
+
+  -- it is the first one from its own place on
+  abbrev Again : Type 0
+  Again = first_node (nodes (e.depth - 1) (items b h e.place)) ≡ Ok (Some e)
+
+  again_here : (d i : ℕ) → e.place ≡ i → d + 1 ≡ e.depth → nodes d (items b h i) ≡ listed e ∷ es → Again
+  again_here d i p q f =
+      let s : e.depth - 1 ≡ d = omega (arith, q) in
+      ap (λ j. first_node (nodes (e.depth - 1) (items b h j))) p ∙ ap (λ c. first_node (nodes c (items b h i))) s ∙ ap first_node f
+
+  again_open : (d i : ℕ) (n : Piece) (next : ℕ) (deep : Bool) → nodes d (items b h i) ≡ listed e ∷ es
+      → cond deep (broken (Depth (at i)) ∷ []) (listed (record { place = i; name = n; body = next; depth = d + 1; rest = items b h next }) ∷ nodes (d + 1) (items b h next)) ≡ listed e ∷ es
+      → Again
+  again_open d i n next true f q = no_fault (Depth (at i)) q
+  again_open d i n next false f q =
+      let place : e.place ≡ i = cc in
+      let depth : d + 1 ≡ e.depth = cc in
+      again_here d i place depth f
+
+  again_token : (d i : ℕ) (r : Result (Word × ℕ) TokenFault) → token_at b h i ≡ r → nodes d (items b h i) ≡ listed e ∷ es
+      → ((c j : ℕ) → i + 4 ≤ j → i + 4 ≤ ending h → nodes c (items b h j) ≡ listed e ∷ es → Again)
+      → nodes d (more (items b h) i r) ≡ listed e ∷ es → Again
+  again_token d i (Err g) t f later q = no_fault g q
+  again_token d i (Ok (opens n, next)) t f later q = again_open d i n next (nat_le 16 d) f q
+  again_token d i (Ok (property n v, next)) t f later q = let g = goes_on b h i (property n v) next t in later d next g.1 g.0 q
+  again_token zero i (Ok (closes, next)) t f later q = no_fault _ q
+  again_token (suc d) i (Ok (closes, next)) t f later q = let g = goes_on b h i closes next t in later d next g.1 g.0 q
+  again_token d i (Ok (nothing, next)) t f later q = let g = goes_on b h i nothing next t in later d next g.1 g.0 q
+  again_token d i (Ok (ends, next)) t f later q = no_node q
+
+  again_within : (n d i : ℕ) → ending h - i < n → nodes d (items b h i) ≡ listed e ∷ es → Again
+  again_within zero d i lt q = absurd (omega arith)
+  again_within (suc n) d i lt q =
+      again_token d i (token_at b h i) refl q
+      (λ c j past inside f. again_within n c j (omega arith) f)
+      (sym (ap (nodes d) (items_is b h i)) ∙ q)
+
+  pub listed_again : (d i : ℕ) → nodes d (items b h i) ≡ listed e ∷ es → Again
+  listed_again d i q = again_within (suc (ending h - i)) d i (omega arith) q

@@ -1,5 +1,5 @@
 -- The nodes of a tree, in blob order.
-use Rattle.std.specs.Prelude.{ℕ, zero, suc, ◌+◌, ◌≤◌, cond, List, [], ◌∷◌, Some, None, Ok, Err, Option, Result, nat_le}
+use Rattle.std.specs.Prelude.{◌≡◌, ℕ, zero, suc, ◌+◌, ◌-◌, ◌≤◌, cond, List, [], ◌∷◌, Some, None, Ok, Err, Option, Result, nat_le}
 use Rattle.cells.specs.declared.header.Header.{Header}
 use Rattle.faults.specs.declared.fault.TokenFault.{TokenFault}
 use Rattle.faults.specs.declared.fault.TokenFault.TheVariants.{Rule, Depth}
@@ -75,3 +75,9 @@ abbrev pub GoesOn : Header → ℕ → Result (Option Node) TokenFault → Type 
 GoesOn h i (Ok None) = Unit {0}
 GoesOn h i (Ok (Some n)) = (i + 4 ≤ n.body.place.0) × (i + 4 ≤ ending h)
 GoesOn h i (Err f) = Unit {0}
+
+-- a node that was read is the first one from its own open token on
+abbrev pub StandsThere : List ℕ → Header → Result (Option Node) TokenFault → Type 0
+StandsThere b h (Ok None) = Unit {0}
+StandsThere b h (Ok (Some n)) = first_node (nodes_from b h (n.body.depth - 1) n.place.0) ≡ Ok (Some (entry b h n))
+StandsThere b h (Err f) = Unit {0}

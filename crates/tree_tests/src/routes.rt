@@ -1,6 +1,7 @@
 // Where each specifier of a tree ends, as text: an item for each, in blob order.
 use crate::refused::Refused;
 use faults::report::Report;
+use indexed::Indexed;
 use listing::stop::Stop;
 use route_text::{route_end, route_text};
 use specifiers::list::specifiers;
@@ -12,9 +13,10 @@ use tree::tree::Tree;
 // `routes`, then the items with `, ` between them.
 pub fn routes(heap: Global, bytes: &[u8]) -> Result<String, Stop> {
     let tree = Tree::open(bytes)?;
+    let indexed = Indexed::of(&tree);
     let mut out = String::from_str(heap, "routes")?;
     for node in tree.nodes() {
-        add_items(heap, &tree, &node?, &mut out)?;
+        add_items(heap, &indexed, &node?, &mut out)?;
     }
     Ok(out)
 }
@@ -22,14 +24,14 @@ pub fn routes(heap: Global, bytes: &[u8]) -> Result<String, Stop> {
 // The items of a node's specifiers.
 fn add_items<'a>(
     heap: Global,
-    tree: &Tree<'a>,
+    indexed: &Indexed<'a>,
     node: &Node<'a>,
     out: &mut String,
 ) -> Result<(), AllocError> {
     // `zip`, since `enumerate` asks for a bound on how many there are.
-    for (index, specifier) in (0usize..).zip(specifiers(tree, node)) {
+    for (index, specifier) in (0usize..).zip(specifiers(indexed, node)) {
         let between = if out.as_str() == "routes" { " " } else { ", " };
-        let end = match route_end(tree, specifier) {
+        let end = match route_end(indexed, specifier) {
             Ok(route) => route_text(heap, &route)?,
             Err(fault) => {
                 let refused = Refused(Report::from(fault));

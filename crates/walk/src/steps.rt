@@ -11,12 +11,12 @@ use crate::hops::{Hop, Hops};
 use cell_list::CellList;
 use faults::fault::RouteFault;
 use faults::place::{At, Place};
+use indexed::Indexed;
 use nexus::ready::nexus_at;
 use nexus::rows::taken_row;
 use properties::Property;
 use specifiers::Specifier;
 use tree::node::Node;
-use tree::tree::Tree;
 use values::property::has;
 
 // A route: the device's place, the specifier's index, the rows taken, the controller, and the specifier cells that arrive there.
@@ -43,11 +43,11 @@ struct Arrival<'a> {
 
 // The walk of a specifier whose cells arrive first at this node, through at most eight rows.
 pub fn walk_from<'a>(
-    tree: &Tree<'a>,
+    indexed: &Indexed<'a>,
     specifier: &Specifier<'a>,
     node: &Node<'a>,
 ) -> Result<Route<'a>, RouteFault>
-    ensures { route_in tree.now result ≡ walked (nodes_of tree.now) (specified tree.now specifier.now) (entry_in tree.now node.now) }
+    ensures { route_in indexed.now.tree result ≡ walked (nodes_of indexed.now.tree) (specified indexed.now.tree specifier.now) (entry_in indexed.now.tree node.now) }
 {
     let first = Arrival {
         node: *node,
@@ -56,18 +56,19 @@ pub fn walk_from<'a>(
         hops: Hops::none(),
         rows_left: 8,
     };
-    arrive(tree, specifier, &first)
+    arrive(indexed, specifier, &first)
 }
 
 // A controller ends the route; a node with `interrupt-map` is a nexus; any other is 15.
 #[cycle(arrive_look_up_row)]
 fn arrive<'a>(
-    tree: &Tree<'a>,
+    indexed: &Indexed<'a>,
     specifier: &Specifier<'a>,
     arrival: &Arrival<'a>,
 ) -> Result<Route<'a>, RouteFault>
-    ensures { route_in tree.now result ≡ arrived arrival.now.rows_left (nodes_of tree.now) (specified tree.now specifier.now) (entry_in tree.now arrival.now.node) (list_option arrival.now.given) (cells_in arrival.now.cells) (hops_of arrival.now.hops) }
+    ensures { route_in indexed.now.tree result ≡ arrived arrival.now.rows_left (nodes_of indexed.now.tree) (specified indexed.now.tree specifier.now) (entry_in indexed.now.tree arrival.now.node) (list_option arrival.now.given) (cells_in arrival.now.cells) (hops_of arrival.now.hops) }
 {
+    let tree = &indexed.tree;
     let node = &arrival.node;
     if has(tree, node, b"interrupt-controller")? {
         return Ok(Route {
@@ -79,7 +80,7 @@ fn arrive<'a>(
         });
     }
     match tree.property(node, b"interrupt-map")? {
-        Some(map) => look_up_row(tree, specifier, arrival, &map),
+        Some(map) => look_up_row(indexed, specifier, arrival, &map),
         None => Err(RouteFault::NoEnd(At::missing(node.place))),
     }
 }
@@ -87,23 +88,23 @@ fn arrive<'a>(
 // The nexus takes its first row that matches, 18 for a ninth, and the walk goes on at the row's parent.
 #[cycle(arrive_look_up_row)]
 fn look_up_row<'a>(
-    tree: &Tree<'a>,
+    indexed: &Indexed<'a>,
     specifier: &Specifier<'a>,
     arrival: &Arrival<'a>,
     map: &Property<'a>,
 ) -> Result<Route<'a>, RouteFault>
-    ensures { route_in tree.now result ≡ looked_up arrival.now.rows_left (nodes_of tree.now) (specified tree.now specifier.now) (entry_in tree.now arrival.now.node) (owned map.now) (list_option arrival.now.given) (cells_in arrival.now.cells) (hops_of arrival.now.hops) }
+    ensures { route_in indexed.now.tree result ≡ looked_up arrival.now.rows_left (nodes_of indexed.now.tree) (specified indexed.now.tree specifier.now) (entry_in indexed.now.tree arrival.now.node) (owned map.now) (list_option arrival.now.given) (cells_in arrival.now.cells) (hops_of arrival.now.hops) }
 {
     let node = &arrival.node;
     let nexus = nexus_at(
-        tree,
+        &indexed.tree,
         &specifier.device,
         node,
         map,
         arrival.given,
         arrival.cells,
     )?;
-    let taken = taken_row(tree, &nexus)?;
+    let taken = taken_row(indexed, &nexus)?;
     if arrival.rows_left == 0 {
         return Err(RouteFault::TooManyRows(nexus.holder));
     }
@@ -118,5 +119,5 @@ fn look_up_row<'a>(
         hops: arrival.hops.with(hop),
         rows_left: arrival.rows_left - 1,
     };
-    arrive(tree, specifier, &next)
+    arrive(indexed, specifier, &next)
 }

@@ -1,6 +1,6 @@
 ghost use Rattle.std.specs.Prelude.{◌≡◌};
 ghost use Rattle.properties.specs.Properties.{PropertyGoes, property_seen, first_property, sought};
-ghost use Rattle.tree.specs.Nodes.{GoesOn, first_node, listed_by};
+ghost use Rattle.tree.specs.Nodes.{GoesOn, StandsThere, first_node, listed_by};
 ghost use Rattle.tree.specs.Reads.{node_in, nodes_in, tokens_in};
 
 use super::Tree;
@@ -23,11 +23,12 @@ impl<'a> Tree<'a> {
     }
 
     // The first node from a cursor on, in blob order, at any depth.
-    #[tactic(auto, using(crate::proofs::Nexts::first_listed))]
+    #[tactic(auto, using(crate::proofs::Nexts::first_listed, crate::proofs::Nexts::listed_again))]
     pub fn next_node(&self, cursor: Cursor) -> Result<Option<Node<'a>>, TokenFault>
         ensures is { node_in self.now result ≡ first_node (nodes_in self.now cursor.depth cursor.place.0) }
         ensures rest { nodes_in self.now cursor.depth cursor.place.0 ≡ listed_by (λ e. nodes_in self.now e.depth e.body) (node_in self.now result) }
         ensures goes { GoesOn self.now.blob.header cursor.place.0 result }
+        ensures there { StandsThere self.now.blob.bytes.now self.now.blob.header result }
     {
         let mut depth = cursor.depth;
         for read in self.blob.tokens(cursor.place) {

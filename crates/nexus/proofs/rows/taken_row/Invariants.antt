@@ -9,4 +9,4 @@ use Rattle.nexus.proofs.rows.taken_row.Given as goal
 abbrev pub invariant-loop-row : goal.invariant-loop-row
 invariant-loop-row l =
     (l.row + length (cells_in l.rest) ≤ length (cells_in l.nexus.map))
-    × (rows_from (nodes_of l.tree) (ready l.nexus) l.row (cells_in l.rest) 0 ≡ taken_row (nodes_of l.tree) (ready l.nexus))
+    × (rows_from (nodes_of l.indexed.tree) (ready l.nexus) l.row (cells_in l.rest) 0 ≡ taken_row (nodes_of l.indexed.tree) (ready l.nexus))

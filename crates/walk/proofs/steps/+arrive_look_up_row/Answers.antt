@@ -11,7 +11,7 @@ use Rattle.walk.proofs.steps.+arrive_look_up_row.Goals as goal
 
 pub look_up_row-returns : goal.look_up_row-returns
 look_up_row-returns t c =
-    let tree = c.args.tree.now in
+    let tree = c.args.indexed.now.tree in
     let a = c.args.arrival.now in
     c.arrive.ensures
     ∙ looked_on (nodes_of tree) (specified tree c.args.specifier.now) a.rows_left (entry_in tree a.node) (owned c.args.map.now)

@@ -10,9 +10,9 @@ use Rattle.plan.proofs.draft.Draft.read.Goals as goal
 
 pub returns-in_err-read_node : goal.returns-in_err-read_node
 returns-in_err-read_node c =
-    let es = nodes_of c.args.tree.now in
+    let es = nodes_of c.args.indexed.now.tree in
     let d = drawn c.loop-node.self in
-    let e = entry_in c.args.tree.now c.in_ok-node.field-0 in
+    let e = entry_in c.args.indexed.now.tree c.in_ok-node.field-0 in
     let left = nodes_left c.next.new.self in
     let f = c.in_err-read_node.field-0.0 in
     let first : nodes_left c.loop-node.node-iterator ≡ listed e ∷ left = search rules in

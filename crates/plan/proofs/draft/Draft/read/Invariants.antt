@@ -9,6 +9,6 @@ use Rattle.plan.proofs.draft.Draft.read.Given as goal
 abbrev pub invariant-loop-node : goal.invariant-loop-node
 invariant-loop-node l =
     record {
-      same : l.node-iterator.tree ≡ l.tree;
-      decides : drawn_from (nodes_of l.tree) (drawn l.self) (nodes_left l.node-iterator) ≡ drawn_from (nodes_of l.tree) (drawn l.initial.self) (nodes_of l.tree);
+      same : l.node-iterator.tree ≡ l.indexed.tree;
+      decides : drawn_from (nodes_of l.indexed.tree) (drawn l.self) (nodes_left l.node-iterator) ≡ drawn_from (nodes_of l.indexed.tree) (drawn l.initial.self) (nodes_of l.indexed.tree);
     }

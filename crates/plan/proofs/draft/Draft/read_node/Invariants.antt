@@ -10,7 +10,7 @@ use Rattle.plan.proofs.draft.Draft.read_node.Given as goal
 abbrev pub invariant-loop-specifier : goal.invariant-loop-specifier
 invariant-loop-specifier l =
     record {
-      same : tree_of l.specifier-iterator ≡ l.tree;
-      decides : node_drawn (nodes_of l.tree) (drawn l.self) (list_left l.specifier-iterator)
-          ≡ node_drawn (nodes_of l.tree) (drawn l.initial.self) (specifiers_of (nodes_of l.tree) (entry_in l.tree l.node));
+      same : tree_of l.specifier-iterator ≡ l.indexed.tree;
+      decides : node_drawn (nodes_of l.indexed.tree) (drawn l.self) (list_left l.specifier-iterator)
+          ≡ node_drawn (nodes_of l.indexed.tree) (drawn l.initial.self) (specifiers_of (nodes_of l.indexed.tree) (entry_in l.indexed.tree l.node));
     }

@@ -1,0 +1,4 @@
+pub mod OwnSteps
+pub mod Equals
+pub mod Numbers
+pub mod Lines

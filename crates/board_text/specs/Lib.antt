@@ -1,0 +1,4 @@
+pub mod Lists
+pub mod Faults
+pub mod Law
+pub mod Texts

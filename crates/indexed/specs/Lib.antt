@@ -1,0 +1,4 @@
+pub mod Handles
+pub mod Orders
+pub mod Rows
+pub mod Single
