@@ -146,12 +146,38 @@ def device_rows(size):
     return [cell for d, i in enumerate(inputs[: device_count(size)]) for cell in (d + 1, 1 + i // 64, 1 + i % 64)]
 
 
-def rows(b, n, size, parents=(4, 3)):
-    """Up to 253 routes through one map, whose first rows do not match and name the last two nodes by turns; no-ops stand before those."""
+def open_nexus(b, before=0):
+    """The nexus with phandle 9, open, up to its map, with no-ops before its properties."""
     b.open("x")
+    b.nothing(before)
     b.property("#interrupt-cells", 1)
     b.property("#address-cells", 0)
     b.property("phandle", 9)
+
+
+def below_nexus(b, count):
+    """A PLIC with so many specifiers, each for the nexus with phandle 9."""
+    b.open("p")
+    b.text("compatible", "sifive,plic-1.0.0")
+    b.property("interrupt-controller")
+    b.property("#interrupt-cells", 1)
+    b.property("riscv,ndev", 64)
+    b.property("interrupt-parent", 9)
+    b.property("interrupts", *[1] * count)
+    b.close()
+
+
+def eight_rows():
+    """The cells of eight rows, of which each leads to the next through the nexus itself, and the last to the controller with phandle 2."""
+    cells = []
+    for i in range(1, 8):
+        cells += [i, 9, i + 1]
+    return [*cells, 8, 2, 1]
+
+
+def rows(b, n, size, parents=(4, 3)):
+    """Up to 253 routes through one map, whose first rows do not match and name the last two nodes by turns; no-ops stand before those."""
+    open_nexus(b)
     cells = []
     for row in range(n):
         cells += [0, parents[row % len(parents)], 1]
@@ -225,24 +251,12 @@ def specifiers(b, n, size, wide=False):
         b.close()
     else:
         b.nothing(3 * n)
-    b.open("p")
-    b.text("compatible", "sifive,plic-1.0.0")
-    b.property("interrupt-controller")
-    b.property("#interrupt-cells", 1)
-    b.property("riscv,ndev", 64)
-    b.property("interrupt-parent", 9)
-    b.property("interrupts", *[1] * (3 * n))
-    b.close()
-    b.open("x")
-    b.property("#interrupt-cells", 1)
-    b.property("#address-cells", 0)
-    b.property("phandle", 9)
+    below_nexus(b, 3 * n)
+    open_nexus(b)
     cells = []
     for row in range(n):
         cells += [0, 2 + row % 2, 1]
-    for i in range(1, 8):
-        cells += [i, 9, i + 1]
-    b.property("interrupt-map", *cells, 8, 2, 1)
+    b.property("interrupt-map", *cells, *eight_rows())
     b.close()
     plic(b, "q", 2, 64)
     plic(b, "r", 3, 64)
@@ -254,23 +268,9 @@ def wide_specifiers(b, n, size):
 
 def arrivals(b, n, size):
     """A controller with many specifiers, each eight times at one nexus with eight rows, which has no-ops before its properties. Half of the room each."""
-    b.open("p")
-    b.text("compatible", "sifive,plic-1.0.0")
-    b.property("interrupt-controller")
-    b.property("#interrupt-cells", 1)
-    b.property("riscv,ndev", 64)
-    b.property("interrupt-parent", 9)
-    b.property("interrupts", *[1] * n)
-    b.close()
-    b.open("x")
-    b.nothing(n)
-    b.property("#interrupt-cells", 1)
-    b.property("#address-cells", 0)
-    b.property("phandle", 9)
-    cells = []
-    for i in range(1, 8):
-        cells += [i, 9, i + 1]
-    b.property("interrupt-map", *cells, 8, 2, 1)
+    below_nexus(b, n)
+    open_nexus(b, n)
+    b.property("interrupt-map", *eight_rows())
     b.close()
     plic(b, "q", 2, 64)
 
