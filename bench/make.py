@@ -6,6 +6,7 @@ since dtc writes no no-op token and no name that is shared by its end.
 """
 
 import os
+import random
 import struct
 import subprocess
 import sys
@@ -146,9 +147,9 @@ def device_rows(size):
     return [cell for d, i in enumerate(inputs[: device_count(size)]) for cell in (d + 1, 1 + i // 64, 1 + i % 64)]
 
 
-def open_nexus(b, before=0):
+def open_nexus(b, before=0, name="x"):
     """The nexus with phandle 9, open, up to its map, with no-ops before its properties."""
-    b.open("x")
+    b.open(name)
     b.nothing(before)
     b.property("#interrupt-cells", 1)
     b.property("#address-cells", 0)
@@ -275,6 +276,92 @@ def arrivals(b, n, size):
     plic(b, "q", 2, 64)
 
 
+def short_arrivals(b, n, size):
+    """The same with 240 bytes of no-ops, and more specifiers."""
+    below_nexus(b, n)
+    open_nexus(b, 60)
+    b.property("interrupt-map", *eight_rows())
+    b.close()
+    plic(b, "q", 2, 64)
+
+
+def long_arrivals(b, n, size):
+    """The same after nodes with no-ops of 256 bytes each, half of the room."""
+    for _ in range(n // 64):
+        b.open("l")
+        b.nothing(64)
+        b.close()
+    arrivals(b, n // 2, size)
+
+
+def long_node(b, n, size):
+    """The same, where the nexus has a long name in place of no-ops: half of the room each."""
+    below_nexus(b, n)
+    open_nexus(b, 0, "x" * (4 * n))
+    b.property("interrupt-map", *eight_rows())
+    b.close()
+    plic(b, "q", 2, 64)
+
+
+def full_rows(b, n, size):
+    """A controller with many specifiers, each through a map of rows that do not match eight times; half of the room each."""
+    below_nexus(b, 3 * n)
+    open_nexus(b)
+    cells = []
+    for row in range(n):
+        cells += [0, 2 + row % 2, 1]
+    b.property("interrupt-map", *cells, *eight_rows())
+    b.close()
+    plic(b, "q", 2, 64)
+    plic(b, "r", 3, 64)
+
+
+def handles(b, n, size):
+    """The same, where the rows name 64 nodes in no order."""
+    for handle in range(64):
+        b.open("n")
+        b.property("phandle", 16 + handle)
+        b.property("#interrupt-cells", 1)
+        b.property("#address-cells", 0)
+        b.close()
+    below_nexus(b, 3 * n)
+    open_nexus(b)
+    order = random.Random(1)
+    cells = []
+    for row in range(n):
+        cells += [0, 16 + order.randrange(64), 1]
+    b.property("interrupt-map", *cells, *eight_rows())
+    b.close()
+    plic(b, "q", 2, 64)
+
+
+def ancestors(b, n, size):
+    """Devices, each with 64 candidates for its interrupt parent, of which all but six are parents in the tree; no-ops stand before those."""
+    four_plics(b)
+    b.open("x")
+    b.property("interrupt-parent", 100)
+    devices(b, size)
+    b.close()
+    b.nothing(n)
+    b.open("y")
+    for group, deep in enumerate((14, 14, 14, 14, 6)):
+        for level in range(deep):
+            b.open("c")
+            if level == 0:
+                b.property("interrupt-parent", 101 + group if group < 4 else 162)
+            if level == deep - 1:
+                b.property("phandle", 100 + group)
+        for level in range(deep):
+            b.close()
+    b.open("z")
+    b.property("phandle", 162)
+    b.property("#interrupt-cells", 1)
+    b.property("#address-cells", 0)
+    b.property("interrupt-map", *device_rows(size))
+    b.close()
+    b.close()
+
+
 WORST = {
     "phandles": (phandles, 16, 64),
     "deep": (deep, 16, 64),
@@ -286,6 +373,12 @@ WORST = {
     "specifiers": (specifiers, 2, 64),
     "wide-specifiers": (wide_specifiers, 1, 64),
     "arrivals": (arrivals, 2, 64),
+    "short-arrivals": (short_arrivals, 16, 64),
+    "long-arrivals": (long_arrivals, 16, 64),
+    "long-node": (long_node, 16, 64),
+    "full-rows": (full_rows, 16, 64),
+    "handles": (handles, 16, 64),
+    "ancestors": (ancestors, 16, 64),
 }
 
 

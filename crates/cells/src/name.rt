@@ -3,6 +3,7 @@ ghost use Rattle.std.specs.Str.{bytes_eq};
 ghost use Rattle.cells.specs.Cells.{before_zero, leading_nonzero, name_bytes};
 
 use faults::place::Place;
+use memchr::memchr;
 use std::fmt;
 
 // A name that has not been read: the place of its first byte, and the bytes from there to the end of its block, of which those
@@ -73,10 +74,11 @@ fn before_zero(bytes: &[u8]) -> &[u8]
 }
 
 // Where the first zero byte stands.
+#[tactic(auto, using(crate::proofs::FirstBytes::first_position))]
 pub(crate) fn first_zero(bytes: &[u8]) -> Option<usize>
     ensures { result ≡ position (λ byte. byte == 0) bytes.now }
 {
-    bytes.iter().position(|byte| *byte == 0)
+    memchr(0, bytes)
 }
 
 // Whether there is a zero byte. The byte at `tried` is looked at first.

@@ -4,22 +4,11 @@ use Rattle.std.proofs.lemmas.List.{get_or_past}
 use Rattle.std.proofs.lemmas.Bool.{cases_eq, cases_lt, both_ways}
 use Rattle.search.specs.Exactly.{Exactly}
 use Rattle.line.specs.declared.row.Row.{Row}
-use Rattle.line.specs.declared.row.Sense.{Sense}
-use Rattle.line.specs.declared.row.Sense.TheVariants.{Following, Gated}
-use Rattle.line.specs.Rows.{Legal, made, made_request, waits}
+use Rattle.line.specs.Rows.{Legal, made, waits}
+use Rattle.line.specs.Made.{made_legal}
 use Rattle.controller.specs.Meaning.{Lawful, Waits, at}
 use Rattle.highest_first.specs.declared.chip.HighestFirst.{HighestFirst}
 use Rattle.highest_first.specs.Highest.{HighestWaiting, chip_lines, chip_meaning, highest, highest_below, lines_of, made_line, ready}
-
--- the row of a record is one that can exist
-follows_made : (s : Sense) (l v q : Bool) → s ≡ Following → made_request s l v q ≡ l
-follows_made s l v q e = rw e
-
-gated_made : (s : Sense) (l v q : Bool) → s ≡ Gated → v ≡ true → made_request s l v q ≡ false
-gated_made s l v q e h = rw (e, h)
-
-made_legal : (r : Row) → Legal (made r)
-made_legal r = record { follows = λ e. follows_made r.sense r.level r.service r.request e; gated = λ e h. gated_made r.sense r.level r.service r.request e h }
 
 -- lines that are records, of which any is then wired
 abbrev AllLegal : List (Option Row) → Type 0

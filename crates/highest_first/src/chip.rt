@@ -113,7 +113,7 @@ impl Controller for HighestFirst {
     }
 
     // The row of the wired line too, which does not count.
-    #[tactic(auto, using(crate::proofs::Wiring::reset_whole, crate::proofs::Wiring::lines_reset, controller::proofs::Resets::reset_again))]
+    #[tactic(auto, using(line::proofs::Records::reset_whole, crate::proofs::Wiring::lines_reset, controller::proofs::Resets::reset_again))]
     fn reset(&mut self)
         ensures rests { (chip_meaning self.new).lines ≡ all_reset (chip_meaning self.new).lines }
         ensures resets { (chip_meaning self.new).lines ≡ all_reset (chip_meaning self.old).lines }

@@ -7,6 +7,7 @@ use Rattle.std.proofs.lemmas.Cmp.{ranked}
 use Rattle.std.proofs.lemmas.List.Sorted.{IsNonDecreasingBy-from_default}
 use Rattle.std.proofs.lemmas.List.Edits.{length-insert, get_or-insert_below, get_or-insert_at, get_or-insert_above}
 use Rattle.std.proofs.lemmas.Bool.Decides.{nat_tests}
+use Rattle.indexed.specs.declared.row.Few.{Few}
 use Rattle.indexed.specs.declared.row.Row.{Row}
 use Rattle.indexed.specs.Orders.{IsAt, IsGap, Rising, handle_at, no_row}
 use Rattle.indexed.specs.Rows.{row_with}
@@ -132,3 +133,6 @@ module _ (rs : List Row) (r : Row) (at : ℕ) (gap : IsGap rs r.phandle at) wher
 -- the row that a gap is for is not found
 pub with_none : (rs : List Row) (x at : ℕ) → IsGap rs x at → row_with x rs ≡ None
 with_none rs x at gap = with_absent rs x (λ j lt same. grind (arith, gap.smaller j, gap.greater j))
+
+pub same_few : (f g : Few) → f.address ≡ g.address → f.interrupt ≡ g.interrupt → f ≡ g
+same_few f g a n = λ i. record { address = a i; interrupt = n i }

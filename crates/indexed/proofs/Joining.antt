@@ -13,7 +13,7 @@ use Rattle.values.specs.Counts.{counts_of}
 use Rattle.values.specs.Values.{node_of, node_or}
 use Rattle.indexed.specs.declared.row.Few.{Few}
 use Rattle.indexed.specs.declared.row.Row.{Row}
-use Rattle.indexed.specs.Rows.{Keeps, Kept, Tells, by_row, counts_found, few, good, node_at, nodes_past, row_with}
+use Rattle.indexed.specs.Rows.{Keeps, Kept, Tells, by_row, counts_by, counts_found, counts_with, few, good, node_at, nodes_past, row_with}
 
 -- what is found further on may be found by the rows of what is there
 found_more : (t : Tree) (x : ℕ) (rs qs : List Row) (there further : Result (Option Entry) TokenFault) → there ≡ by_row t further (row_with x qs)
@@ -54,15 +54,20 @@ found_counts holder (Ok (Some e)) c h = good_is (counts_of e) c h
 found_counts holder (Ok None) c h = cc
 found_counts holder (Err f) c h = cc
 
-pub same_counts : (a i : ℕ) (f : Few) → a ≡ f.address → i ≡ f.interrupt → ◌≡◌ {A = Result Counts RouteFault} (Ok (record { address = a; interrupt = i })) (Ok (few f))
-same_counts a i f p q = cc
-
 -- the counts that a row keeps are those of the node that a search finds
 pub counts_told : (t : Tree) (es : List Listed) (rs : List Row) (b : Cursor) (x : ℕ) (holder : At) (r : Row) (f : Few) → Tells t es rs b → Keeps t rs
     → row_with x rs ≡ Some r → r.counts ≡ Some f → Ok (few f) ≡ after (node_of es x holder) counts_of
 counts_told t es rs b x holder r f tells keeps q w =
     let found : with_phandle x es ≡ node_at t r = tells x ∙ ap (by_row t (with_phandle x (nodes_past t b))) q in
     sym (ap (λ z. after (after (held z) (node_or holder)) counts_of) found ∙ found_counts holder (node_at t r) (few f) (keeps x r q f w))
+
+pub few_told : (t : Tree) (es : List Listed) (rs : List Row) (b : Cursor) (x : ℕ) (holder : At) (f : Few) → Tells t es rs b → Keeps t rs
+    → counts_with x rs ≡ Some f → Ok (few f) ≡ after (node_of es x holder) counts_of
+few_told t es rs b x holder f tells keeps w = go (row_with x rs) refl w
+  where
+    go : (o : Option Row) → row_with x rs ≡ o → counts_by o ≡ Some f → Ok (few f) ≡ after (node_of es x holder) counts_of
+    go (Some r) q w = counts_told t es rs b x holder r f tells keeps q w
+    go None q w = cc
 
 -- rows that are found as those of both
 module _ (t : Tree) (old qs new : List Row) (more : (x : ℕ) → row_with x new ≡ row_with x (old ++ qs)) where

@@ -1,2 +1,4 @@
+pub mod Above
 pub mod Finding
 pub mod Joining
+pub mod Telling

@@ -17,6 +17,14 @@ abbrev pub row_with : ℕ → List Row → Option Row
 row_with x [] = None
 row_with x (r ∷ rs) = cond (r.phandle == x) (Some r) (row_with x rs)
 
+-- the counts that the first row with this phandle keeps
+abbrev pub counts_by : Option Row → Option Few
+counts_by None = None
+counts_by (Some r) = r.counts
+
+abbrev pub counts_with : ℕ → List Row → Option Few
+counts_with x rs = counts_by (row_with x rs)
+
 -- the nodes from a cursor on
 abbrev pub nodes_past : Tree → Cursor → List Listed
 nodes_past t c = nodes_in t c.depth c.place.0

@@ -1,5 +1,5 @@
 -- What an index keeps of its rows is stored once: what these facts equate is data, so each of them has one proof at most.
-use Rattle.std.specs.Prelude.{◌≡◌, ℕ, List, Option, Result, refl}
+use Rattle.std.specs.Prelude.{◌≡◌, ℕ, Bool, List, Option, Result, refl}
 use Rattle.std.proofs.Common.{◌⊎◌, inl, inr}
 use Rattle.std.specs.Coded.{Coded, Coded-set, Π_prop, code_by, coded_ℕ, coded_list, coded_option, coded_result, coded×, coded⊎}
 use base.Stored.{coded_unit}
@@ -9,12 +9,17 @@ use Rattle.faults.specs.declared.fault.TokenFault.{TokenFault}
 use Rattle.fdt.specs.declared.cursor.Cursor.{Cursor}
 use Rattle.fdt.specs.Items.{Item, item, bad}
 use Rattle.fdt.specs.Tokens.{Word, opens, property, closes, nothing, ends}
+use Rattle.properties.specs.Properties.{Owned}
 use Rattle.tree.specs.declared.tree.Tree.{Tree}
-use Rattle.tree.specs.Nodes.{Entry, Listed}
+use Rattle.tree.specs.Nodes.{Entry, Listed, listed, broken}
 use Rattle.values.specs.contracts.counts.Counts as counts
 use Rattle.values.specs.declared.counts.Counts.{Counts}
 use Rattle.indexed.specs.declared.row.Row.{Row}
+use Rattle.indexed.specs.declared.starts.Starts.{Starts}
 use Rattle.indexed.specs.Rows.{Keeps, Tells}
+use Rattle.indexed.specs.declared.spots.Spot.{Spot}
+use Rattle.indexed.specs.Spots.{Spotted}
+use Rattle.indexed.specs.Starts.{Needs, Search, Told}
 
 abbrev piece_code : Coded Piece
 piece_code = code_by (ℕ × List ℕ) (coded× coded_ℕ (coded_list coded_ℕ)) (λ p. (p.place, p.bytes)) (λ q. record { place = q.0; bytes = q.1 }) (λ _. refl)
@@ -79,3 +84,42 @@ Tells-prop t es rs c = Π_prop (λ x. found-set _ _)
 
 pub Keeps-prop : (t : Tree) (rs : List Row) → IsProp (Keeps t rs)
 Keeps-prop t rs = Π_prop (λ x. Π_prop (λ r. Π_prop (λ q. Π_prop (λ f. Π_prop (λ h. counts-set _ _)))))
+
+abbrev owned_code : Coded Owned
+owned_code =
+    code_by (ℕ × (Piece × (Piece × ℕ))) (coded× coded_ℕ (coded× piece_code (coded× piece_code coded_ℕ))) (λ p. (p.place, (p.name, (p.value, p.next))))
+    (λ q. record { place = q.0; name = q.1.0; value = q.1.1.0; next = q.1.1.1 }) (λ _. refl)
+
+abbrev search_code : Coded Search
+search_code = coded_result (coded_option owned_code) token_fault.the_row.coded
+
+abbrev needs_code : Coded Needs
+needs_code =
+    code_by (Search × (Search × (Search × (Search × (Search × Search)))))
+    (coded× search_code (coded× search_code (coded× search_code (coded× search_code (coded× search_code search_code)))))
+    (λ n. (n.controller, (n.map, (n.mask, (n.address, (n.interrupt, n.reg))))))
+    (λ q. record { controller = q.0; map = q.1.0; mask = q.1.1.0; address = q.1.1.1.0; interrupt = q.1.1.1.1.0; reg = q.1.1.1.1.1 }) (λ _. refl)
+
+needs-set : IsSet Needs
+needs-set = Coded-set needs_code
+
+pub Told-prop : (t : Tree) (ss : List Starts) → IsProp (Told t ss)
+Told-prop t ss = Π_prop (λ i. Π_prop (λ s. Π_prop (λ q. needs-set _ _)))
+
+abbrev either_of : Listed → Entry ⊎ TokenFault
+either_of (listed e) = inl e
+either_of (broken f) = inr f
+
+abbrev listed_of : Entry ⊎ TokenFault → Listed
+listed_of (inl e) = listed e
+listed_of (inr f) = broken f
+
+listed_back : (l : Listed) → listed_of (either_of l) ≡ l
+listed_back (listed e) = refl
+listed_back (broken f) = refl
+
+nodes-set : IsSet (List Listed)
+nodes-set = Coded-set (coded_list (code_by (Entry ⊎ TokenFault) (coded⊎ entry_code token_fault.the_row.coded) either_of listed_of listed_back))
+
+pub Spotted-prop : (t : Tree) (ss : List Spot) (whole : Bool) → IsProp (Spotted t ss whole)
+Spotted-prop t ss whole = Π_prop (λ q. nodes-set _ _)

@@ -1,8 +1,8 @@
-ghost use Rattle.std.specs.Prelude.{◌≡◌, ℕ, [], ◌++◌, false, IfErr, IfOk, IsTrue};
+ghost use Rattle.std.specs.Prelude.{◌≡◌, ℕ, [], ◌++◌, false, IfErr, IfOk, IsTrue, Some};
 ghost use Rattle.indexed.specs.Orders.{IsAt, IsGap, Rising};
-ghost use Rattle.indexed.specs.Rows.{row_with, rows_of};
+ghost use Rattle.indexed.specs.Rows.{counts_with, row_with, rows_of};
 
-use crate::row::Row;
+use crate::row::{Few, Row};
 use arrayvec::ArrayVec;
 
 // How many rows there is room for: a node with a phandle takes 28 bytes or more of the 65,536 that a blob may have.
@@ -53,8 +53,22 @@ impl Rows {
         }
     }
 
+    // Whether the row at an index has this phandle and these counts.
+    pub(crate) fn is_at(&self, at: usize, phandle: u32, few: Few) -> bool
+        ensures { IsTrue result → counts_with phandle self.now.list.items ≡ Some few }
+    {
+        let rows = self.list.as_slice();
+        if at >= rows.len() || rows[at].phandle != phandle {
+            return false;
+        }
+        let Some(kept) = rows[at].counts else {
+            return false;
+        };
+        kept.address == few.address && kept.interrupt == few.interrupt
+    }
+
     // Where the row with a phandle is, or where it would go in.
-    fn search(&self, phandle: u32) -> Result<usize, usize>
+    pub(crate) fn search(&self, phandle: u32) -> Result<usize, usize>
         ensures found { IfOk result (IsAt self.now.list.items phandle) }
         ensures absent { IfErr result (IsGap self.now.list.items phandle) }
     {

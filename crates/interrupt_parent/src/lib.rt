@@ -10,7 +10,6 @@ ghost use Rattle.values.specs.Values.{node_option, place_in};
 use faults::fault::RouteFault;
 use faults::place::At;
 use indexed::Indexed;
-use nodes::parent;
 use tree::node::Node;
 use values::property::{cell_in, has};
 
@@ -23,7 +22,7 @@ fn candidate<'a>(indexed: &Indexed<'a>, node: &Node<'a>) -> Result<Option<Node<'
 {
     let tree = &indexed.tree;
     match cell_in(tree, node, b"interrupt-parent", 0..=u32::MAX)? {
-        None => Ok(parent(tree, node)?),
+        None => Ok(indexed.parent(node)?),
         Some(cell) => {
             let holder = At::new(node.place, cell.property);
             Ok(Some(indexed.node_of(cell.value, holder)?))

@@ -1,16 +1,21 @@
 -- Child cells are compared cell by cell.
-use Rattle.std.proofs.Common.{◌≡◌, ℕ, zero, suc, ◌+◌, ◌<◌, ◌≤◌, Bool, true, false, ◌&&◌, eqb, List, [], ◌∷◌, length, get_or, drop, Option, sym, refl, ap, ◌∙◌, arith}
+use Rattle.std.proofs.Common.{◌≡◌, ℕ, zero, suc, ◌+◌, ◌<◌, ◌≤◌, Bool, true, false, ◌&&◌, eqb, List, [], ◌∷◌, length, get_or, take, drop, Option, sym, refl, ap, ◌∙◌, arith}
 use Rattle.std.specs.List.{list_all, range_with_len}
 use Rattle.std.specs.Str.{bytes_eq}
-use Rattle.std.proofs.lemmas.List.{drop_more, drop_all}
+use Rattle.std.proofs.lemmas.List.{drop_more, drop_all, get_or-take, length-take-le}
 use Rattle.std.proofs.lemmas.Bool.{false_from_ne_true}
 use Rattle.std.proofs.lemmas.Slice.Eq.{bytes_eq-Decides}
-use Rattle.nexus.specs.Nexuses.{under, masked_from}
+use Rattle.nexus.specs.Nexuses.{Ready, Wanted, masked, masked_from, matches, under}
 
 module _ (mask : Option (List ℕ)) where
   pub length_masked : (i : ℕ) (xs : List ℕ) → length (masked_from mask i xs) ≡ length xs
   length_masked i [] = refl
   length_masked i (x ∷ xs) = ap suc (length_masked (i + 1) xs)
+
+  pub cell_masked : (i k j : ℕ) (xs : List ℕ) → j ≡ i + k → k < length xs → get_or (masked_from mask i xs) k 0 ≡ under mask j (get_or xs k 0)
+  cell_masked i k j [] e h = absurd (omega arith)
+  cell_masked i zero j (x ∷ xs) e h = let same : j ≡ i = omega arith in rw same refl
+  cell_masked i (suc k) j (x ∷ xs) e h = cell_masked (i + 1) k j xs (omega arith) (omega arith)
 
   module _ (child cells : List ℕ) (i : ℕ) (k : length child ≡ length cells) where
     pub same_step : i < length child
@@ -39,3 +44,16 @@ pub not_masked : (mask : Option (List ℕ)) (child cells : List ℕ) → (length
 not_masked mask child cells h =
     false_from_ne_true (bytes_eq child (masked_from mask 0 cells))
     (λ e. h (ap length ((bytes_eq-Decides child (masked_from mask 0 cells)).0 e) ∙ length_masked mask 0 cells))
+
+-- a row does not match that differs from a cell that it has to have
+pub not_wanted : (n : Ready) (wanted rest : List ℕ) (i : ℕ) → Wanted n wanted → n.width < length rest → i < length wanted → (get_or rest i 0 ≡ get_or wanted i 0 → ⊥)
+    → matches n (take n.width rest) ≡ false
+not_wanted n wanted rest i w wide h differs =
+    let child = take n.width rest in
+    false_from_ne_true (matches n child)
+    (λ e.
+    let same : child ≡ masked n = (bytes_eq-Decides child (masked n)).0 e in
+    let long : n.width ≡ length n.cells = sym (length-take-le n.width rest (omega arith)) ∙ ap length same ∙ length_masked n.mask 0 n.cells in
+    differs
+    (sym (get_or-take n.width rest i 0 (omega arith)) ∙ ap (λ l. get_or l i 0) same ∙ cell_masked n.mask 0 i i n.cells (omega arith) (omega arith)
+    ∙ sym (w.1 i h)))

@@ -1,5 +1,5 @@
 -- What a nexus has to match, and its map.
-use Rattle.std.specs.Prelude.{ℕ, ◌+◌, Bool, cond, List, [], ◌∷◌, ◌++◌, length, take, Some, None, Ok, Err, codes, Option, Result, ◌==◌, bit_and, nat_le, slice_index}
+use Rattle.std.specs.Prelude.{ℕ, ◌+◌, Bool, cond, List, [], ◌∷◌, ◌++◌, length, take, Some, None, Ok, Err, codes, Option, Result, ◌==◌, ◌≡◌, ◌<◌, ◌≤◌, bit_and, nat_le, slice_index}
 use Rattle.std.specs.Str.{bytes_eq}
 use Rattle.cell_list.specs.declared.CellList.{CellList}
 use Rattle.cell_list.specs.CellLists.{cells_in}
@@ -97,6 +97,14 @@ masked_from mask i (x ∷ xs) = under mask i x ∷ masked_from mask (i + 1) xs
 -- the cells that a row has to have as its child cells
 abbrev pub masked : Ready → List ℕ
 masked n = masked_from n.mask 0 n.cells
+
+-- the one of those cells that stands at i
+abbrev pub masked_at : Ready → ℕ → ℕ
+masked_at n i = under n.mask i (slice_index n.cells i)
+
+-- these are the first child cells that a row has to have
+abbrev pub Wanted : Ready → List ℕ → Type 0
+Wanted n wanted = (length wanted ≤ n.width) × ((i : ℕ) → i < length wanted → slice_index wanted i ≡ masked_at n i)
 
 -- a row with these child cells matches; they are not masked
 abbrev pub matches : Ready → List ℕ → Bool

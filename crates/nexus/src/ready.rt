@@ -1,17 +1,20 @@
 ghost use Rattle.std.specs.Prelude.{◌≡◌, ◌++◌, slice_index};
 ghost use Rattle.cell_list.specs.CellLists.{cells_in as numbers};
-ghost use Rattle.nexus.specs.Nexuses.{list_option, list_seen, mask_of, mask_seen, matches, nexus_at, ready, ready_in, under, unit_address, unit_of};
+ghost use Rattle.nexus.specs.Nexuses.{Wanted, list_option, list_seen, mask_of, mask_seen, matches, nexus_at, ready, ready_in, under, unit_address, unit_of};
 ghost use Rattle.properties.specs.Properties.{owned};
 ghost use Rattle.tree.specs.Reads.{entry_in};
 
+use arrayvec::ArrayVec;
 use cell_list::CellList;
 use faults::fault::RouteFault;
 use faults::place::At;
+use indexed::Indexed;
 use properties::Property;
 use tree::node::Node;
-use tree::tree::Tree;
-use values::counts::counts_of;
-use values::property::{cells_in, whole_cells};
+use values::property::whole_cells;
+
+// How many child cells a row has at the most: both counts of a node are 4 or less.
+const WANTED: usize = 8;
 
 // A nexus at which cells arrived: the places of it and its map, how many child cells its rows have, the unit address and the
 // specifier to match, the mask and the map.
@@ -28,16 +31,16 @@ pub struct Nexus<'a> {
 // The first `count` cells of the device's `reg`, which is not read for none; 8 for its length, 16 where it is missing or too
 // short.
 fn unit_address<'a>(
-    tree: &Tree<'a>,
+    indexed: &Indexed<'a>,
     device: &Node<'a>,
     count: usize,
 ) -> Result<CellList<'a>, RouteFault>
-    ensures { list_seen result ≡ unit_address (entry_in tree.now device.now) count }
+    ensures { list_seen result ≡ unit_address (entry_in indexed.now.tree device.now) count }
 {
     if count == 0 {
         return Ok(CellList::new(&[]));
     }
-    let Some(reg) = cells_in(tree, device, b"reg")? else {
+    let Some(reg) = indexed.reg(device)? else {
         return Err(RouteFault::Row(At::missing(device.place)));
     };
     if reg.value.len() < count {
@@ -48,28 +51,28 @@ fn unit_address<'a>(
 
 // The unit address: what the row gave, or on the first arrival the device's.
 fn unit_of<'a>(
-    tree: &Tree<'a>,
+    indexed: &Indexed<'a>,
     device: &Node<'a>,
     count: usize,
     given: Option<CellList<'a>>,
 ) -> Result<CellList<'a>, RouteFault>
-    ensures { list_seen result ≡ unit_of (entry_in tree.now device.now) count (list_option given.entry) }
+    ensures { list_seen result ≡ unit_of (entry_in indexed.now.tree device.now) count (list_option given.entry) }
 {
     match given {
         Some(unit) => Ok(unit),
-        None => unit_address(tree, device, count),
+        None => unit_address(indexed, device, count),
     }
 }
 
 // The mask of a nexus, if it has one; 8 for its length, 16 where it has not a cell for each child cell of a row.
 fn mask_of<'a>(
-    tree: &Tree<'a>,
+    indexed: &Indexed<'a>,
     node: &Node<'a>,
     width: usize,
 ) -> Result<Option<CellList<'a>>, RouteFault>
-    ensures { mask_seen result ≡ mask_of (entry_in tree.now node.now) width }
+    ensures { mask_seen result ≡ mask_of (entry_in indexed.now.tree node.now) width }
 {
-    let Some(mask) = cells_in(tree, node, b"interrupt-map-mask")? else {
+    let Some(mask) = indexed.mask(node)? else {
         return Ok(None);
     };
     if mask.value.len() != width {
@@ -81,19 +84,19 @@ fn mask_of<'a>(
 // The nexus with this map, at which cells arrived: its counts (8, 15, 16), the unit address (8, 16), the mask (8, 16) and the
 // map (8) are read in this order. `given` is the unit address that a row gave, none on the first arrival.
 pub fn nexus_at<'a>(
-    tree: &Tree<'a>,
+    indexed: &Indexed<'a>,
     device: &Node<'a>,
     node: &Node<'a>,
     map: &Property<'a>,
     given: Option<CellList<'a>>,
     specifier: CellList<'a>,
 ) -> Result<Nexus<'a>, RouteFault>
-    ensures { ready_in result ≡ nexus_at (entry_in tree.now device.now) (entry_in tree.now node.now) (owned map.now) (list_option given.entry) (numbers specifier.entry) }
+    ensures { ready_in result ≡ nexus_at (entry_in indexed.now.tree device.now) (entry_in indexed.now.tree node.now) (owned map.now) (list_option given.entry) (numbers specifier.entry) }
 {
-    let counts = counts_of(tree, node)?;
-    let unit = unit_of(tree, device, counts.address, given)?;
+    let counts = indexed.counts_at(node)?;
+    let unit = unit_of(indexed, device, counts.address, given)?;
     let width = counts.address + counts.interrupt;
-    let mask = mask_of(tree, node, width)?;
+    let mask = mask_of(indexed, node, width)?;
     let whole = whole_cells(node.place, map)?;
     Ok(Nexus {
         holder: At::new(node.place, map.place),
@@ -126,6 +129,17 @@ impl<'a> Nexus<'a> {
             return self.unit.cell(i);
         }
         self.specifier.cell(i - count)
+    }
+
+    // The child cells that a row has to have, or the first of them where there are more than counts of a node allow.
+    pub(crate) fn wanted(&self) -> ArrayVec<u32, WANTED>
+        ensures { Wanted (ready self.now) result.items }
+    {
+        let mut wanted = ArrayVec::new();
+        for i in 0..self.width.min(WANTED) {
+            wanted.push(self.masked(i));
+        }
+        wanted
     }
 
     // Whether a row with these child cells matches: they are the cells to match under the mask.

@@ -52,3 +52,13 @@ sought name (item i (property n v) next ∷ ts) =
 sought name (item i closes next ∷ ts) = Ok None
 sought name (item i nothing next ∷ ts) = sought name ts
 sought name (item i ends next ∷ ts) = Ok None
+
+-- From the place i on, that of the first token which is neither a no-op nor a property of another name.
+abbrev pub place_of : List ℕ → ℕ → List Item → ℕ
+place_of name i [] = i
+place_of name i (bad f ∷ ts) = i
+place_of name i (item j (opens n) next ∷ ts) = i
+place_of name i (item j (property n v) next ∷ ts) = cond (bytes_eq n.bytes name) i (place_of name next ts)
+place_of name i (item j closes next ∷ ts) = i
+place_of name i (item j nothing next ∷ ts) = place_of name next ts
+place_of name i (item j ends next ∷ ts) = i

@@ -1,10 +1,10 @@
 //! The properties of a node: the first from a place on, and the look-ahead for one of a name, which leaves the walk's cursor as it
-//! was. The definitions are in specs/Properties.antt.
+//! was; and the place where such a search may begin as well. The definitions are in specs/Properties.antt.
 #![tactic(auto)]
 
 ghost use Rattle.std.specs.Prelude.{◌≡◌};
 ghost use Rattle.fdt.specs.Reads.{tokens_of};
-ghost use Rattle.properties.specs.Properties.{PropertyGoes, first_property, property_seen, sought};
+ghost use Rattle.properties.specs.Properties.{PropertyGoes, first_property, place_of, property_seen, sought};
 
 use cells::name::Name;
 use cells::part::Part;
@@ -95,4 +95,21 @@ pub fn look_ahead<'a>(
             Token::Open(_) | Token::Close | Token::End => return Ok(None),
         }
     }
+}
+
+// From a place on, that of the first token which is neither a no-op nor a property of another name, or which cannot be read. A search
+// for this name from there on finds what it finds from the first place on.
+pub fn place_of(blob: &Blob<'_>, place: Place, name: &[u8]) -> Place
+    ensures is { result.0 ≡ place_of name.now place.0 (tokens_of blob.now place.0) }
+    ensures same { sought name.now (tokens_of blob.now result.0) ≡ sought name.now (tokens_of blob.now place.0) }
+{
+    let mut at = place;
+    while let Ok(step) = blob.token_at(at) {
+        match step.token {
+            Token::Property(found, _) if found.is(name) => return at,
+            Token::Nothing | Token::Property(_, _) => at = step.next,
+            Token::Open(_) | Token::Close | Token::End => return at,
+        }
+    }
+    at
 }

@@ -6,7 +6,7 @@ use Rattle.std.proofs.lemmas.Slice.Eq.{bytes_eq-Decides}
 use Rattle.faults.specs.declared.fault.RouteFault.{RouteFault}
 use Rattle.faults.specs.declared.fault.RouteFault.TheVariants.{NoRow}
 use Rattle.nexus.specs.Nexuses.{Ready, masked, matches}
-use Rattle.nexus.specs.Rows.{RowSeen, row_of, row_at, rows_from, take_row}
+use Rattle.nexus.specs.Rows.{RowSeen, shape_of, row_at, rows_from, take_row}
 use Rattle.nexus.proofs.Tries.{Parts, parts, rows_passed}
 use Rattle.tree.specs.Nodes.{Entry, Listed}
 use Rattle.routing.specs.Leads.{IsRow, row_cells, Takes, this, later, Fails, over, unreadable, passed}
@@ -31,7 +31,7 @@ module _ (es : List Listed) (n : Ready) where
     whole = row_cells child phandle unit specifier rest
 
     abbrev the_row : RowSeen
-    the_row = record { child = child; parent = parent; unit = unit; specifier = specifier; size = n.width + 1 + w.counts.address + w.counts.interrupt }
+    the_row = record { shape = record { child = child; unit = unit; specifier = specifier; size = n.width + 1 + w.counts.address + w.counts.interrupt }; parent = parent }
 
     after_child : drop (n.width + 1) whole ≡ unit ++ (specifier ++ rest)
     after_child = sym (drop-drop 1 n.width whole) ∙ ap (drop 1) (drop_at child (phandle ∷ (unit ++ (specifier ++ rest))) n.width w.wide)
@@ -57,7 +57,7 @@ module _ (es : List Listed) (n : Ready) where
     whole_long : length whole ≡ n.width + 1 + (w.counts.address + (w.counts.interrupt + length rest))
     whole_long = simp length-append (omega (arith, w.wide, w.addressed, w.specified))
 
-    row_is : row_of n.width whole parent w.counts ≡ the_row
+    row_is : shape_of n.width whole w.counts ≡ the_row.shape
     row_is =
         let a = child_is in
         let b = unit_is in
@@ -71,20 +71,20 @@ module _ (es : List Listed) (n : Ready) where
         let a : ltb n.width (length whole) ≡ true = lt-ltb n.width (length whole) (omega arith) in
         let b : leb (w.counts.address + w.counts.interrupt) (length (drop (n.width + 1) whole)) ≡ true = le-leb (w.counts.address + w.counts.interrupt) (length (drop (n.width + 1) whole)) (omega arith) in
         let g : get_or whole n.width 0 ≡ phandle = get_or_at child phandle (unit ++ (specifier ++ rest)) 0 n.width w.wide in
-        rw (a, g, w.there, w.counted, b) (ap Ok row_is)
+        rw (a, g, w.there, w.counted, b) (ap (λ s. Ok (record { shape = s; parent = parent })) row_is)
 
     some_cells : 0 < length whole
     some_cells = let l = whole_long in omega arith
 
-  rows_hit : (xs : List ℕ) (row : ℕ) (r : RowSeen) → row_at es n xs ≡ Ok r → 0 < length xs → matches n r.child ≡ true
+  rows_hit : (xs : List ℕ) (row : ℕ) (r : RowSeen) → row_at es n xs ≡ Ok r → 0 < length xs → matches n r.shape.child ≡ true
       → rows_from es n row xs 0 ≡ Ok (take_row row r)
   rows_hit [] row r is h m = absurd (omega arith)
   rows_hit (x ∷ xs) row r is h m = rw (is, m)
 
-  rows_more : (xs : List ℕ) (row : ℕ) (r : RowSeen) → row_at es n xs ≡ Ok r → 0 < length xs → matches n r.child ≡ false → 0 < r.size
-      → rows_from es n row xs 0 ≡ rows_from es n (row + 1) (drop r.size xs) 0
+  rows_more : (xs : List ℕ) (row : ℕ) (r : RowSeen) → row_at es n xs ≡ Ok r → 0 < length xs → matches n r.shape.child ≡ false → 0 < r.shape.size
+      → rows_from es n row xs 0 ≡ rows_from es n (row + 1) (drop r.shape.size xs) 0
   rows_more [] row r is h m some = absurd (omega arith)
-  rows_more (x ∷ xs) row r is h m some = rw (is, m) (rows_passed es n x xs (row + 1) r.size some)
+  rows_more (x ∷ xs) row r is h m some = rw (is, m) (rows_passed es n x xs (row + 1) r.shape.size some)
 
   rows_refused : (xs : List ℕ) (row : ℕ) (f : RouteFault) → row_at es n xs ≡ Err f → 0 < length xs → rows_from es n row xs 0 ≡ Err f
   rows_refused [] row f is h = absurd (omega arith)

@@ -14,7 +14,6 @@ use faults::place::{At, Place};
 use indexed::Indexed;
 use interrupt_parent::interrupt_parent;
 use tree::node::Node;
-use values::counts::interrupt_cells;
 use values::property::cells_in;
 
 pub mod list;
@@ -101,7 +100,7 @@ pub fn next_specifier<'a>(
         return Ok(None);
     }
     let head = head_of(indexed, from)?;
-    let count = interrupt_cells(&indexed.tree, &head.parent)?;
+    let count = indexed.interrupt_cells(&head.parent)?;
     if head.cells.len() < count {
         return Err(RouteFault::Short(At::new(from.device.place, from.property)));
     }

@@ -1,12 +1,11 @@
 -- A table's lines, read, written and reset.
-use Rattle.std.proofs.Common.{◌≡◌, ℕ, zero, suc, ◌<◌, ◌≤◌, min, Bool, true, false, List, [], ◌∷◌, ◌++◌, map, length, take, drop, set, replicate, Some, sym, refl, ap, ◌∙◌, arith}
+use Rattle.std.proofs.Common.{◌≡◌, ℕ, zero, suc, ◌<◌, min, List, [], ◌∷◌, map, length, take, set, replicate, Some, refl, ap, ◌∙◌, arith}
 use lib.Seq.{take-set-lt}
-use Rattle.std.proofs.lemmas.List.{append-nil, drop_all, length-map, length-take, map-set, take_all}
+use Rattle.std.proofs.lemmas.List.{length-map, length-take, map-set}
 use Rattle.line.specs.declared.row.Row.{Row}
-use Rattle.line.specs.declared.row.Sense.{Sense}
-use Rattle.line.specs.declared.row.Sense.TheVariants.{Edge, Following, Gated}
-use Rattle.line.specs.Rows.{Legal, fresh, made, made_request}
+use Rattle.line.specs.Rows.{Legal, made}
 use Rattle.line.specs.Steps.{reset}
+use Rattle.line.proofs.Records.{made_same, reset_made}
 use Rattle.controller.specs.Meaning.{all_reset}
 use Rattle.table.specs.Tables.{made_line}
 
@@ -15,16 +14,6 @@ lines_length w xs = length-map (take w xs) made_line ∙ length-take w xs
 
 lines_set : (w : ℕ) (xs : List Row) (i : ℕ) (r : Row) → i < w → map made_line (take w (set xs i r)) ≡ set (map made_line (take w xs)) i (Some (made r))
 lines_set w xs i r h = ap (map made_line) (take-set-lt w xs i r h) ∙ map-set made_line (take w xs) i r
-
--- a row that is a record makes itself
-request_same : (s : Sense) (l v q : Bool) → (s ≡ Following → q ≡ l) → (s ≡ Gated → v ≡ true → q ≡ false) → made_request s l v q ≡ q
-request_same Edge l v q f g = refl
-request_same Following l v q f g = sym (f refl)
-request_same Gated l true q f g = sym (g refl refl)
-request_same Gated l false q f g = refl
-
-made_same : (r : Row) → Legal r → made r ≡ r
-made_same r e = λ t. record { sense = r.sense; level = r.level; request = request_same r.sense r.level r.service r.request e.follows e.gated t; service = r.service; mask = r.mask }
 
 -- rows that are all the same record
 same_lines : (n w : ℕ) (r : Row) → made r ≡ r → map made_line (take w (replicate n r)) ≡ replicate (min w n) (Some r)
@@ -46,11 +35,6 @@ stored_lines w xs i r l h e f =
     lines_set w xs i r (omega (arith, lines_length w xs, h))
     ∙ ap (λ x. set (map made_line (take w xs)) i (Some x)) (made_same r f ∙ e)
 
-reset_made : (s : Sense) → made (fresh s) ≡ fresh s
-reset_made Edge = refl
-reset_made Following = refl
-reset_made Gated = refl
-
 -- rows that are all reset are lines that are all reset
 pub lines_reset : (w : ℕ) (xs : List Row) → map made_line (take w (map reset xs)) ≡ all_reset (map made_line (take w xs))
 lines_reset zero xs = refl
@@ -59,7 +43,3 @@ lines_reset (suc w) (x ∷ xs) =
     let here = reset_made x.sense in
     let more = lines_reset w xs in
     cc
-
--- the end of a loop that resets the rows
-pub reset_whole : (xs : List Row) (i : ℕ) → length xs ≤ i → map reset (take i xs) ++ drop i xs ≡ map reset xs
-reset_whole xs i h = rw (take_all i xs h, drop_all i xs h) (append-nil (map reset xs))

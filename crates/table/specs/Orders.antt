@@ -1,12 +1,11 @@
--- Lemmas that every order of offering needs: which rows are records, the search for a line, and the laws.
+-- Lemmas that every order of offering needs: that lines are records, the search for a line, and the laws.
 use Rattle.std.proofs.Common.{◌≡◌, ℕ, zero, suc, ◌<◌, ◌≤◌, Bool, true, false, List, [], ◌∷◌, length, map, take, is_some, Some, None, Option, refl, ap, ◌∙◌, ⊎_elim, arith}
 use Rattle.std.proofs.lemmas.List.{get_or_past}
 use Rattle.std.proofs.lemmas.Bool.{cases_lt}
 use Rattle.search.specs.Exactly.{Exactly}
 use Rattle.line.specs.declared.row.Row.{Row}
-use Rattle.line.specs.declared.row.Sense.{Sense}
-use Rattle.line.specs.declared.row.Sense.TheVariants.{Following, Gated}
-use Rattle.line.specs.Rows.{Legal, made, made_request, waits}
+use Rattle.line.specs.Rows.{Legal, made, waits}
+use Rattle.line.specs.Made.{made_legal}
 use Rattle.controller.specs.Meaning.{Lawful, at}
 use Rattle.table.specs.declared.rows.Table.{Table}
 use Rattle.table.specs.Tables.{made_line, table_lines}
@@ -14,16 +13,6 @@ use Rattle.table.specs.Kinds.{OfferedBy, meaning_by, ready, serving}
 
 pub nothing : {A : Type 0} → ◌≡◌ {A = ℕ} 0 1 → A
 nothing z = absurd (let f : ⊥ = omega arith in f)
-
--- the row of a record is one that can exist
-follows_made : (s : Sense) (l v q : Bool) → s ≡ Following → made_request s l v q ≡ l
-follows_made s l v q e = rw e
-
-gated_made : (s : Sense) (l v q : Bool) → s ≡ Gated → v ≡ true → made_request s l v q ≡ false
-gated_made s l v q e h = rw (e, h)
-
-pub made_legal : (r : Row) → Legal (made r)
-made_legal r = record { follows = λ e. follows_made r.sense r.level r.service r.request e; gated = λ e h. gated_made r.sense r.level r.service r.request e h }
 
 pub lines_legal : (xs : List Row) (i : ℕ) (r : Row) → at (map made_line xs) i ≡ Some r → Legal r
 lines_legal [] i r e = absurd cc

@@ -91,7 +91,7 @@ impl Table {
     }
 
     // Resets every line.
-    #[tactic(auto, using(crate::proofs::Reading::reset_whole, crate::proofs::Reading::lines_reset, controller::proofs::Resets::reset_again))]
+    #[tactic(auto, using(line::proofs::Records::reset_whole, crate::proofs::Reading::lines_reset, controller::proofs::Resets::reset_again))]
     pub fn reset(&mut self)
         ensures resets { table_lines self.new ≡ all_reset (table_lines self.old) }
         ensures rests { table_lines self.new ≡ all_reset (table_lines self.new) }

@@ -64,14 +64,24 @@ pub fn sooner(a: RouteFault, b: RouteFault) -> RouteFault
     }
 }
 
+// Both counts of a node from the readings of each; of two faults the sooner.
+pub fn both(
+    address: Result<usize, RouteFault>,
+    interrupt: Result<usize, RouteFault>,
+) -> Result<Counts, RouteFault>
+    ensures { result ≡ both address interrupt }
+{
+    match (address, interrupt) {
+        (Ok(address), Ok(interrupt)) => Ok(Counts { address, interrupt }),
+        (Err(a), Err(b)) => Err(sooner(a, b)),
+        (Err(fault), Ok(_)) | (Ok(_), Err(fault)) => Err(fault),
+    }
+}
+
 // Both counts of a node; of two faults the sooner.
 pub fn counts_of<'a>(tree: &Tree<'a>, node: &Node<'a>) -> Result<Counts, RouteFault>
     ensures is { result ≡ counts_of (entry_in tree.now node.now) }
     ensures few { IfOk result (λ c. (c.address ≤ 4) × (c.interrupt ≤ 4)) }
 {
-    match (address_cells(tree, node), interrupt_cells(tree, node)) {
-        (Ok(address), Ok(interrupt)) => Ok(Counts { address, interrupt }),
-        (Err(a), Err(b)) => Err(sooner(a, b)),
-        (Err(fault), Ok(_)) | (Ok(_), Err(fault)) => Err(fault),
-    }
+    both(address_cells(tree, node), interrupt_cells(tree, node))
 }

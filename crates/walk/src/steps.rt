@@ -17,7 +17,6 @@ use nexus::rows::taken_row;
 use properties::Property;
 use specifiers::Specifier;
 use tree::node::Node;
-use values::property::has;
 
 // A route: the device's place, the specifier's index, the rows taken, the controller, and the specifier cells that arrive there.
 #[derive(Clone, Copy, PartialEq, Eq, Debug)]
@@ -68,9 +67,8 @@ fn arrive<'a>(
 ) -> Result<Route<'a>, RouteFault>
     ensures { route_in indexed.now.tree result ≡ arrived arrival.now.rows_left (nodes_of indexed.now.tree) (specified indexed.now.tree specifier.now) (entry_in indexed.now.tree arrival.now.node) (list_option arrival.now.given) (cells_in arrival.now.cells) (hops_of arrival.now.hops) }
 {
-    let tree = &indexed.tree;
     let node = &arrival.node;
-    if has(tree, node, b"interrupt-controller")? {
+    if indexed.is_controller(node)? {
         return Ok(Route {
             device: specifier.device.place,
             index: specifier.index,
@@ -79,7 +77,7 @@ fn arrive<'a>(
             cells: arrival.cells,
         });
     }
-    match tree.property(node, b"interrupt-map")? {
+    match indexed.map(node)? {
         Some(map) => look_up_row(indexed, specifier, arrival, &map),
         None => Err(RouteFault::NoEnd(At::missing(node.place))),
     }
@@ -97,7 +95,7 @@ fn look_up_row<'a>(
 {
     let node = &arrival.node;
     let nexus = nexus_at(
-        &indexed.tree,
+        indexed,
         &specifier.device,
         node,
         map,

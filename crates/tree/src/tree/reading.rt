@@ -1,5 +1,5 @@
 ghost use Rattle.std.specs.Prelude.{◌≡◌};
-ghost use Rattle.properties.specs.Properties.{PropertyGoes, property_seen, first_property, sought};
+ghost use Rattle.properties.specs.Properties.{PropertyGoes, property_seen, first_property, place_of, sought};
 ghost use Rattle.tree.specs.Nodes.{GoesOn, StandsThere, first_node, listed_by};
 ghost use Rattle.tree.specs.Reads.{node_in, nodes_in, tokens_in};
 
@@ -9,7 +9,7 @@ use faults::fault::TokenFault;
 use faults::place::Place;
 use fdt::cursor::Cursor;
 use fdt::token::Token;
-use properties::{Property, look_ahead, property_from};
+use properties::{Property, look_ahead, place_of, property_from};
 
 impl<'a> Tree<'a> {
     // Before the first token.
@@ -66,5 +66,14 @@ impl<'a> Tree<'a> {
     {
         let mut cursor = node.body;
         look_ahead(&self.blob, &mut cursor, name)
+    }
+
+    // From a node's body on, the place of the first token which is neither a no-op nor a property of another name. A search for this
+    // name from there on finds what it finds in the node.
+    pub fn property_place(&self, node: &Node<'a>, name: &[u8]) -> Place
+        ensures is { result.0 ≡ place_of name.now node.now.body.place.0 (tokens_in self.now node.now.body.place.0) }
+        ensures same { sought name.now (tokens_in self.now result.0) ≡ sought name.now (tokens_in self.now node.now.body.place.0) }
+    {
+        place_of(&self.blob, node.body.place, name)
     }
 }

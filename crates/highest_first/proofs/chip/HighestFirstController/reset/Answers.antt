@@ -1,7 +1,7 @@
 use Rattle.std.proofs.Common.{ap, ◌∙◌, arith}
 use Rattle.std.proofs.lemmas.List.{get_or_default}
 use Rattle.line.specs.Steps.{reset}
-use Rattle.highest_first.proofs.Wiring.{reset_more}
+use Rattle.line.proofs.Records.{reset_more}
 use Rattle.highest_first.proofs.chip.HighestFirstController.reset.Goals as goal
 
 pub loop-row-preserved : goal.loop-row-preserved
