@@ -176,6 +176,17 @@ def eight_rows():
     return [*cells, 8, 2, 1]
 
 
+def through_rows(b, n, parent):
+    """A controller with 3n specifiers, each eight times through a map whose first n rows do not match; `parent` gives the phandle that a row names."""
+    below_nexus(b, 3 * n)
+    open_nexus(b)
+    cells = []
+    for row in range(n):
+        cells += [0, parent(row), 1]
+    b.property("interrupt-map", *cells, *eight_rows())
+    b.close()
+
+
 def rows(b, n, size, parents=(4, 3)):
     """Up to 253 routes through one map, whose first rows do not match and name the last two nodes by turns; no-ops stand before those."""
     open_nexus(b)
@@ -252,13 +263,7 @@ def specifiers(b, n, size, wide=False):
         b.close()
     else:
         b.nothing(3 * n)
-    below_nexus(b, 3 * n)
-    open_nexus(b)
-    cells = []
-    for row in range(n):
-        cells += [0, 2 + row % 2, 1]
-    b.property("interrupt-map", *cells, *eight_rows())
-    b.close()
+    through_rows(b, n, lambda row: 2 + row % 2)
     plic(b, "q", 2, 64)
     plic(b, "r", 3, 64)
 
@@ -305,13 +310,7 @@ def long_node(b, n, size):
 
 def full_rows(b, n, size):
     """A controller with many specifiers, each through a map of rows that do not match eight times; half of the room each."""
-    below_nexus(b, 3 * n)
-    open_nexus(b)
-    cells = []
-    for row in range(n):
-        cells += [0, 2 + row % 2, 1]
-    b.property("interrupt-map", *cells, *eight_rows())
-    b.close()
+    through_rows(b, n, lambda row: 2 + row % 2)
     plic(b, "q", 2, 64)
     plic(b, "r", 3, 64)
 
@@ -324,14 +323,8 @@ def handles(b, n, size):
         b.property("#interrupt-cells", 1)
         b.property("#address-cells", 0)
         b.close()
-    below_nexus(b, 3 * n)
-    open_nexus(b)
     order = random.Random(1)
-    cells = []
-    for row in range(n):
-        cells += [0, 16 + order.randrange(64), 1]
-    b.property("interrupt-map", *cells, *eight_rows())
-    b.close()
+    through_rows(b, n, lambda row: 16 + order.randrange(64))
     plic(b, "q", 2, 64)
 
 
