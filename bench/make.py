@@ -205,27 +205,36 @@ def rows_one(b, n, size):
     rows(b, n, size, [4])
 
 
-def candidates(b, n, size):
-    """Devices, each with a chain of 64 candidates for its interrupt parent; no-ops stand before the chain."""
+def before_candidates(b, n, size):
+    """Four PLICs, and devices whose first candidate but one is the node with phandle 100; no-ops stand after those."""
     four_plics(b)
     b.open("x")
     b.property("interrupt-parent", 100)
     devices(b, size)
     b.close()
     b.nothing(n)
-    # The last of the chain is a nexus with every input, so that each device has a line of its own.
-    b.open("y")
-    for i in range(62):
-        b.open("c")
-        b.property("phandle", 100 + i)
-        b.property("interrupt-parent", 101 + i)
-        b.close()
+
+
+def last_candidate(b, size):
+    """A nexus with phandle 162 and every input, so that each device has a line of its own."""
     b.open("z")
     b.property("phandle", 162)
     b.property("#interrupt-cells", 1)
     b.property("#address-cells", 0)
     b.property("interrupt-map", *device_rows(size))
     b.close()
+
+
+def candidates(b, n, size):
+    """Devices, each with a chain of 64 candidates for its interrupt parent; no-ops stand before the chain."""
+    before_candidates(b, n, size)
+    b.open("y")
+    for i in range(62):
+        b.open("c")
+        b.property("phandle", 100 + i)
+        b.property("interrupt-parent", 101 + i)
+        b.close()
+    last_candidate(b, size)
     b.close()
 
 
@@ -272,22 +281,23 @@ def wide_specifiers(b, n, size):
     specifiers(b, n, size, wide=True)
 
 
-def arrivals(b, n, size):
-    """A controller with many specifiers, each eight times at one nexus with eight rows, which has no-ops before its properties. Half of the room each."""
-    below_nexus(b, n)
-    open_nexus(b, n)
+def arrive_at(b, count, before, name="x"):
+    """A controller with so many specifiers, each eight times at one nexus with eight rows, of this name and with no-ops before its properties."""
+    below_nexus(b, count)
+    open_nexus(b, before, name)
     b.property("interrupt-map", *eight_rows())
     b.close()
     plic(b, "q", 2, 64)
+
+
+def arrivals(b, n, size):
+    """A controller with many specifiers, each eight times at one nexus with eight rows, which has no-ops before its properties. Half of the room each."""
+    arrive_at(b, n, n)
 
 
 def short_arrivals(b, n, size):
     """The same with 240 bytes of no-ops, and more specifiers."""
-    below_nexus(b, n)
-    open_nexus(b, 60)
-    b.property("interrupt-map", *eight_rows())
-    b.close()
-    plic(b, "q", 2, 64)
+    arrive_at(b, n, 60)
 
 
 def long_arrivals(b, n, size):
@@ -301,11 +311,7 @@ def long_arrivals(b, n, size):
 
 def long_node(b, n, size):
     """The same, where the nexus has a long name in place of no-ops: half of the room each."""
-    below_nexus(b, n)
-    open_nexus(b, 0, "x" * (4 * n))
-    b.property("interrupt-map", *eight_rows())
-    b.close()
-    plic(b, "q", 2, 64)
+    arrive_at(b, n, 0, "x" * (4 * n))
 
 
 def full_rows(b, n, size):
@@ -330,12 +336,7 @@ def handles(b, n, size):
 
 def ancestors(b, n, size):
     """Devices, each with 64 candidates for its interrupt parent, of which all but six are parents in the tree; no-ops stand before those."""
-    four_plics(b)
-    b.open("x")
-    b.property("interrupt-parent", 100)
-    devices(b, size)
-    b.close()
-    b.nothing(n)
+    before_candidates(b, n, size)
     b.open("y")
     for group, deep in enumerate((14, 14, 14, 14, 6)):
         for level in range(deep):
@@ -346,12 +347,7 @@ def ancestors(b, n, size):
                 b.property("phandle", 100 + group)
         for level in range(deep):
             b.close()
-    b.open("z")
-    b.property("phandle", 162)
-    b.property("#interrupt-cells", 1)
-    b.property("#address-cells", 0)
-    b.property("interrupt-map", *device_rows(size))
-    b.close()
+    last_candidate(b, size)
     b.close()
 
 
