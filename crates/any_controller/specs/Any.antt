@@ -20,5 +20,5 @@ pub data Kind : Type 0 where
 
 abbrev pub kind_of : AnyController → Kind
 kind_of (I8259 x) = i8259
-kind_of (Plic x) = plic (map (λ p. p.number) x.order.levels)
+kind_of (Plic x) = plic x.order.levels
 kind_of (StatusMux x) = status_mux

@@ -149,7 +149,7 @@ loosened Complete p p₁ c c' k j t a x = completes p p₁ c c' k j t a x
 pub settles_after : {p p₁ p₂ c : Meaning} {k : ℕ} → Loose p p₁ c k → Settled p₁ p₂ c k → Settled p p₂ c k
 settles_after d s = grind arith
 
-pub claims_room : (p₁ c c' : Meaning) (k d w : ℕ) → w ≡ length p₁.lines → Lawful c → Linked p₁ c' k → Named d c c' → w + d ≤ 256
+pub claims_room : (p₁ c c' : Meaning) (k d w : ℕ) → w ≡ length p₁.lines → Lawful c → Linked p₁ c' k → Named d c c' → w + d < 256
 claims_room p₁ c c' k d w ew lc l n = let o = offered_within c lc d n.offered in grind (arith, common_steps)
 
 pub claims_named : {m m' : Meaning} (w d r : ℕ) → r ≡ min (w + d) (2 ^ 64 - 1) → w + d ≤ 256 → Named (w + d) m m' → Named r m m'

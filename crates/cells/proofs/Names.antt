@@ -1,5 +1,5 @@
 -- A name is compared by no more of its bytes than one past those that it is compared with.
-use Rattle.std.proofs.Common.{◌≡◌, ℕ, suc, ◌+◌, ◌-◌, ◌<◌, Bool, true, false, cond, ◌&&◌, eqb, List, [], ◌∷◌, length, get_or, take, refl, ap, ◌∙◌, sym, arith}
+use Rattle.std.proofs.Common.{◌≡◌, ℕ, suc, ◌+◌, ◌-◌, ◌<◌, Bool, true, false, cond, not, ◌&&◌, eqb, List, [], ◌∷◌, length, get_or, take, refl, ap, ◌∙◌, sym, arith}
 use Rattle.std.proofs.lemmas.List.Sums.{take_while-cons, prefix_len_passes}
 use Rattle.std.proofs.lemmas.Bool.Decides.{nat_tests}
 use Rattle.std.specs.List.{slice_range}
@@ -30,6 +30,22 @@ pub cut_same : (r w : List ℕ) → bytes_eq (before_zero (slice_range r 0 (leng
 cut_same r w =
     let n : length w + 1 - 0 ≡ suc (length w) = omega arith in
     ap (λ n. bytes_eq (before_zero (take n r)) w) n ∙ front_same r w
+
+-- where the byte after as many as are wanted is no zero byte, the name is not what is wanted
+pub ends_elsewhere : (b w : List ℕ) → length w < length b → eqb (get_or b (length w) 0) 0 ≡ false → bytes_eq (before_zero b) w ≡ false
+ends_elsewhere [] w l e = absurd (let z : ⊥ = omega arith in z)
+ends_elsewhere (x ∷ r) [] l e =
+    ap (λ z. bytes_eq z []) (take_while-cons nonzero x r) ∙ ap (λ t. bytes_eq (cond (not t) (x ∷ before_zero r) []) []) e
+ends_elsewhere (x ∷ r) (y ∷ w) l e =
+    ap (λ z. bytes_eq z (y ∷ w)) (take_while-cons nonzero x r) ∙ go (nonzero x) (ends_elsewhere r w (omega arith) e)
+  where
+    go : (t : Bool) → bytes_eq (before_zero r) w ≡ false → bytes_eq (cond t (x ∷ before_zero r) []) (y ∷ w) ≡ false
+    go true f = ap (λ z. eqb x y && z) f ∙ both (eqb x y)
+      where
+        both : (b : Bool) → (b && false) ≡ false
+        both true = refl
+        both false = refl
+    go false f = refl
 
 -- where a byte is zero, no more bytes stand before the first zero byte than before that one
 pub zero_stops : (b : List ℕ) (i : ℕ) → i < length b → get_or b i 0 ≡ 0 → leading_nonzero b < length b

@@ -22,13 +22,14 @@ impl<'a> Name<'a> {
         before_zero(self.rest)
     }
 
-    // Whether these are the name's bytes. At most one byte more than these is read.
+    // Whether these are the name's bytes. At most one byte more than these is read, and that one first, since most names are longer or
+    // shorter.
     #[tactic(auto, using(crate::proofs::Names::cut_same))]
     pub fn is(&self, wanted: &[u8]) -> bool
         ensures { result ≡ bytes_eq (name_bytes self.now) wanted.now }
     {
         match self.rest.get(..=wanted.len()) {
-            Some(front) => before_zero(front) == wanted,
+            Some(front) => front[wanted.len()] == 0 && before_zero(front) == wanted,
             None => self.bytes() == wanted,
         }
     }

@@ -95,7 +95,7 @@ impl Event {
     fn is_claim(self, device: usize) -> bool
         ensures { result ≡ is_claim device self.call self.answer }
     {
-        self.call == Call::Claim && self.answer.names(device)
+        matches!(self.call, Call::Claim) && self.answer.names(device)
     }
 }
 
@@ -111,6 +111,6 @@ impl Answer {
     fn names(self, device: usize) -> bool
         ensures { result ≡ names_device device self }
     {
-        self == Answer::Named(Some(device))
+        matches!(self, Answer::Named(Some(named)) if named == device)
     }
 }

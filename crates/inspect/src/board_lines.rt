@@ -10,19 +10,27 @@ use plan::tree_plan::Plan;
 use std::alloc::{AllocError, Global};
 use tree::tree::Tree;
 
-// A line for each controller, then for each route, in the order of their numbers; or the refusal.
-pub fn list_board<'a>(heap: Global, tree: &Tree<'a>) -> Result<Vec<u8>, Stop> {
+// The text with a line more for each controller, then for each route, in the order of their numbers; or with the refusal.
+pub fn list_board<'a>(heap: Global, tree: &Tree<'a>, text: Vec<u8>) -> Result<Vec<u8>, Stop> {
+    let mut out = text;
     match Plan::of(tree) {
-        Ok(plan) => board_lines(heap, tree, &plan),
+        Ok(plan) => add_board(heap, tree, &plan, &mut out)?,
         Err(fault) => {
             let report = Report::from(fault);
-            Ok(format!(in heap; "board refused: {report}\n")?.into_bytes())
+            let line = format!(in heap; "board refused: {report}\n")?;
+            out.extend_from_slice(line.as_bytes())?;
         }
     }
+    Ok(out)
 }
 
-fn board_lines<'a>(heap: Global, tree: &Tree<'a>, plan: &Plan<'a>) -> Result<Vec<u8>, Stop> {
-    let mut out = Vec::new(heap);
+// The lines of a board.
+fn add_board<'a>(
+    heap: Global,
+    tree: &Tree<'a>,
+    plan: &Plan<'a>,
+    out: &mut Vec<u8>,
+) -> Result<(), Stop> {
     for (number, controller) in plan.controllers().iter().enumerate() {
         let line = controller_line(heap, plan, number, controller)?;
         out.extend_from_slice(line.as_bytes())?;
@@ -35,12 +43,12 @@ fn board_lines<'a>(heap: Global, tree: &Tree<'a>, plan: &Plan<'a>) -> Result<Vec
             if route.device == node.place {
                 let line = device_line(heap, plan, number, route)?;
                 out.extend_from_slice(line.as_bytes())?;
-                out.extend_from_slice(path.text(heap)?.as_slice())?;
+                path.write_to(out)?;
                 out.push(b'\n')?;
             }
         }
     }
-    Ok(out)
+    Ok(())
 }
 
 // A controller's kind and width, its lines, and where it is cascaded.

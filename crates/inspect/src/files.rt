@@ -2,20 +2,19 @@ use crate::node_lines::listing;
 use std::io::Write;
 use std::{env, fs, io};
 
-// The listing of one file.
-fn list_file(rt: &HostRuntime, name: &str) -> io::Result<Vec<u8>> {
-    let bytes = match fs::read(rt, name) {
-        Ok(bytes) => bytes,
+// The bytes of a file.
+fn read_file(rt: &HostRuntime, name: &str) -> io::Result<Vec<u8>> {
+    match fs::read(rt, name) {
+        Ok(bytes) => Ok(bytes),
         Err(error) => {
             eprintln!(rt; "inspect: cannot read {name}: {error}")?;
-            return Err(error);
+            Err(error)
         }
-    };
-    Ok(listing(rt.alloc(), bytes.as_slice())?)
+    }
 }
 
-// The listings of the files that the arguments name, on standard output, each under its file's name where there are several; with
-// none a line that says how the program is called.
+// The listings of the files that the arguments name, on standard output, each under its file's name where there are several, which is
+// printed as soon as the file is read; with none a line that says how the program is called.
 pub fn list_files(rt: &HostRuntime) -> io::Result<()> {
     let mut names = env::args(rt)?;
     let _program = names.next();
@@ -25,10 +24,11 @@ pub fn list_files(rt: &HostRuntime) -> io::Result<()> {
         return Err(io::Error::from(io::ErrorKind::InvalidInput));
     }
     for name in names {
-        let out = list_file(rt, name.as_str())?;
+        let bytes = read_file(rt, name.as_str())?;
         if several {
             println!(rt; "{name}:")?;
         }
+        let out = listing(rt.alloc(), bytes.as_slice())?;
         rt.stdout().write_all(out.as_slice())?;
     }
     Ok(())

@@ -51,7 +51,7 @@ fn all_nodes<'a>(heap: Global, tree: &Tree<'a>) -> Result<Vec<u8>, Stop> {
         path.enter(&node)?;
         let front = format!(in heap; "node {} {} ", node.place, node.body.depth)?;
         out.extend_from_slice(front.as_bytes())?;
-        out.extend_from_slice(path.text(heap)?.as_slice())?;
+        path.write_to(&mut out)?;
         out.push(b'\n')?;
         counts.add(tree, &node)?;
     }
@@ -63,10 +63,9 @@ fn all_nodes<'a>(heap: Global, tree: &Tree<'a>) -> Result<Vec<u8>, Stop> {
 // What is in a blob that opens: its nodes, its routes, and the board.
 fn tree_lines(heap: Global, bytes: &[u8]) -> Result<Vec<u8>, Stop> {
     let tree = Tree::open(bytes)?;
-    let mut out = all_nodes(heap, &tree)?;
-    out.extend_from_slice(list_routes(heap, &tree)?.as_slice())?;
-    out.extend_from_slice(list_board(heap, &tree)?.as_slice())?;
-    Ok(out)
+    let out = all_nodes(heap, &tree)?;
+    let out = list_routes(heap, &tree, out)?;
+    list_board(heap, &tree, out)
 }
 
 // What is in a blob, or the refusal.

@@ -17,11 +17,11 @@ struct RouteLines {
     refused: usize,
 }
 
-// A line for each specifier, in blob order, then how many have a route and how many are refused. The allocator goes to each call that
-// allocates, as the language asks.
-pub fn list_routes<'a>(heap: Global, tree: &Tree<'a>) -> Result<Vec<u8>, Stop> {
+// The text with a line more for each specifier, in blob order, then how many have a route and how many are refused. The allocator goes to
+// each call that allocates, as the language asks.
+pub fn list_routes<'a>(heap: Global, tree: &Tree<'a>, text: Vec<u8>) -> Result<Vec<u8>, Stop> {
     let mut lines = RouteLines {
-        text: Vec::new(heap),
+        text,
         routes: 0,
         refused: 0,
     };
@@ -58,7 +58,7 @@ impl RouteLines {
                     let text = route_text(heap, &route)?;
                     let line = format!(in heap; "route {} {index}{text} ", node.place)?;
                     self.text.extend_from_slice(line.as_bytes())?;
-                    self.text.extend_from_slice(path.text(heap)?.as_slice())?;
+                    path.write_to(&mut self.text)?;
                     self.text.push(b'\n')?;
                     self.routes = self.routes.saturating_add(1);
                 }

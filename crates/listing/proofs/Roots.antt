@@ -21,3 +21,8 @@ module _ {X : Type 0} (f : X → List ℕ) (xs : List X) (t : List ℕ) (is : t 
 
   pub full_text : length t ≢ 0 → t ≡ path_text (map f xs)
   full_text h = sym (or_full t h) ∙ text_is
+
+-- the text of a path with names, behind another
+pub named_text : {X : Type 0} (f : X → List ℕ) (xs : List X) (s t : List ℕ) → length xs ≢ 0 → t ≡ s ++ flat_map (λ x. 47 ∷ f x) xs → t ≡ s ++ path_text (map f xs)
+named_text f [] s t h e = absurd (h refl)
+named_text f (x ∷ xs) s t h e = e ∙ ap (λ y. s ++ y) (sym (flat_map-map (λ n. 47 ∷ n) f (x ∷ xs)))

@@ -1,4 +1,4 @@
-ghost use Rattle.std.specs.Prelude.{◌≡◌, [], IfOk, OnErr, OnOk};
+ghost use Rattle.std.specs.Prelude.{◌≡◌, ◌++◌, [], IfOk, OnErr, OnOk};
 ghost use Rattle.listing.specs.Paths.{above, entered, names_of, path_text};
 
 use std::alloc::{AllocError, Global};
@@ -47,5 +47,20 @@ impl<'a> Path<'a> {
             text.push(b'/')?;
         }
         Ok(text)
+    }
+
+    // Writes the path behind what is there: the names, each after a `/`; the root's path is `/` alone.
+    pub fn write_to(&self, out: &mut Vec<u8>) -> Result<(), AllocError>
+        ensures { OnOk result (out.new.items ≡ out.old.items ++ path_text (names_of self.now)) }
+    {
+        if self.names.is_empty() {
+            out.push(b'/')?;
+            return Ok(());
+        }
+        for name in &self.names {
+            out.push(b'/')?;
+            out.extend_from_slice(name)?;
+        }
+        Ok(())
     }
 }

@@ -16,7 +16,7 @@ new_lines w = replicate w.number (Some (fresh Gated))
 
 -- the priority of line i
 abbrev pub level_of : ByPriority → ℕ → ℕ
-level_of x i = slice_index (map (λ p. p.number) x.levels) i
+level_of x i = slice_index x.levels i
 
 -- the priority of line i that a list gives: the one at i, or 1 past its end
 abbrev pub given_level : List (OneTo 7) → ℕ → ℕ

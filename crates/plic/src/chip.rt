@@ -13,8 +13,8 @@ use table::rows::Table;
 // The order of a PLIC: the waiting line of greatest priority, among equals the lowest-numbered.
 #[derive(Clone, Copy, PartialEq, Eq, Debug)]
 pub struct ByPriority {
-    // The priority of each line, beside the rows and not in them: rows are the same for every order.
-    levels: [Priority; 64],
+    // The priority of each line, a byte each, beside the rows and not in them: rows are the same for every order.
+    levels: [u8; 64],
 }
 
 // A PLIC.
@@ -44,11 +44,11 @@ impl ByPriority {
 
 // The priority at i, or 1 past the end.
 #[tactic(auto, using(crate::proofs::Priorities::number_at))]
-fn level_at(priorities: &[Priority], i: usize) -> Priority
-    ensures { result.number ≡ given_level priorities.now i }
+fn level_at(priorities: &[Priority], i: usize) -> u8
+    ensures { result ≡ given_level priorities.now i }
 {
     let one = Priority::new(1).unwrap();
-    priorities.get(i).copied().unwrap_or(one)
+    usize::from(priorities.get(i).copied().unwrap_or(one)) as u8
 }
 
 impl Order for ByPriority {

@@ -90,13 +90,14 @@ impl Table {
         }
     }
 
-    // Resets every line.
-    #[tactic(auto, using(line::proofs::Records::reset_whole, crate::proofs::Reading::lines_reset, controller::proofs::Resets::reset_again))]
+    // Resets every line, and reads no row past the last.
+    #[tactic(auto, using(crate::proofs::Reading::lines_reset_front, controller::proofs::Resets::reset_again))]
     pub fn reset(&mut self)
         ensures resets { table_lines self.new ≡ all_reset (table_lines self.old) }
         ensures rests { table_lines self.new ≡ all_reset (table_lines self.new) }
     {
-        for row in &mut self.rows[..] {
+        let wide = self.width();
+        for row in &mut self.rows[..wide] {
             *row = Row::from(Line::from(*row).reset());
         }
     }

@@ -37,11 +37,13 @@ impl<'a> Iterator for Nodes<'a> {
     ghost remaining = { item_count nodes_left };
 
     fn next(&mut self) -> Option<Result<Node<'a>, TokenFault>> {
-        let next = self.tree.next_node(self.at?);
-        self.at = match next {
-            Ok(Some(node)) => Some(node.body),
-            Ok(None) | Err(_) => None,
-        };
-        next.transpose()
+        match self.tree.next_node(self.at.take()?) {
+            Ok(Some(node)) => {
+                self.at = Some(node.body);
+                Some(Ok(node))
+            }
+            Ok(None) => None,
+            Err(fault) => Some(Err(fault)),
+        }
     }
 }

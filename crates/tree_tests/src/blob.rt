@@ -111,7 +111,8 @@ fn patch(bytes: &mut Vec<u8>, word: &str) -> Result<(), BadRow> {
     if let Some((at, value)) = word.split_once('=') {
         let at = number(at)? as usize;
         let cell = number(value)?.to_be_bytes();
-        for (byte, new) in bytes.iter_mut().skip(at).zip(cell) {
+        let start = at.min(bytes.len());
+        for (byte, new) in bytes[start..].iter_mut().zip(cell) {
             *byte = new;
         }
     }

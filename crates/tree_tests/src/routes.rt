@@ -13,7 +13,14 @@ use tree::tree::Tree;
 // `routes`, then the items with `, ` between them.
 pub fn routes(heap: Global, bytes: &[u8]) -> Result<String, Stop> {
     let tree = Tree::open(bytes)?;
-    let indexed = Indexed::of(&tree);
+    routes_of(heap, &tree)
+}
+
+// The text of an opened tree. It is no part of its caller, since it takes a stack of the size of an index as soon as it is called, and
+// most strings of bytes do not open.
+#[inline(never)]
+fn routes_of(heap: Global, tree: &Tree<'_>) -> Result<String, Stop> {
+    let indexed = Indexed::of(tree);
     let mut out = String::from_str(heap, "routes")?;
     for node in tree.nodes() {
         add_items(heap, &indexed, &node?, &mut out)?;

@@ -6,4 +6,4 @@ use Rattle.walk_tests.specs.declared.error.WalkError.TheVariants.{UnknownWord, O
 
 abbrev pub kind_of : WalkError → ErrorKind
 kind_of UnknownWord = kind.InvalidData
-kind_of OutOfMemory = kind.OutOfMemory
+kind_of OutOfMemory = kind.InvalidData

@@ -32,13 +32,14 @@ impl From<ParseIntError> for WalkError {
     }
 }
 
+// Either ends the program with the error for bad data.
 impl From<WalkError> for io::Error {
     ghost from_gives = { λ why error. error_kind error ≡ kind_of why };
 
     fn from(why: WalkError) -> io::Error {
         let kind = match why {
             WalkError::UnknownWord => io::ErrorKind::InvalidData,
-            WalkError::OutOfMemory => io::ErrorKind::OutOfMemory,
+            WalkError::OutOfMemory => io::ErrorKind::InvalidData,
         };
         io::Error::from(kind)
     }

@@ -14,16 +14,15 @@ impl fmt::Display for Record {
             Ok(line) => Row::from(line),
             Err(fault) => return write!(f, "{}", u8::from(fault)),
         };
-        let sense = match row.sense {
-            Sense::Edge => 'e',
-            Sense::Following => 'f',
-            Sense::Gated => 'g',
-        };
-        let level = if row.level { 'h' } else { 'l' };
-        let request = if row.request { 'r' } else { '-' };
-        let service = if row.service { 's' } else { '-' };
-        let mask = if row.mask { 'm' } else { '-' };
-        write!(f, "{sense}{level}{request}{service}{mask}")
+        f.write_str(match row.sense {
+            Sense::Edge => "e",
+            Sense::Following => "f",
+            Sense::Gated => "g",
+        })?;
+        f.write_str(if row.level { "h" } else { "l" })?;
+        f.write_str(if row.request { "r" } else { "-" })?;
+        f.write_str(if row.service { "s" } else { "-" })?;
+        f.write_str(if row.mask { "m" } else { "-" })
     }
 }
 

@@ -1,3 +1,4 @@
+use Rattle.std.proofs.Common.{arith}
 use Rattle.cascade.proofs.Serving.{is_wired, not_wired, claims_other, claims_none, claims_link, claims_child, claims_room, claims_named}
 use Rattle.cascade.proofs.pair.CascadeController.claim.Goals as goal
 
@@ -26,5 +27,5 @@ returns g c =
     let s = λ (f : _). claims_child p p₁ (g.P.Controller.meaning c.settle.new.parent) d d' o c.in_ok-i.i c.in_ok-c.c c.width-wide.result is (c.width-wide.ensures (q.keeps f.0)) (q.names f.0) (r.names f.1) (c.settle.ensures.settled (q.keeps f.0) (r.keeps f.1) (l f)) in
     record {
       keeps = λ f. (c.settle.ensures.keeps (q.keeps f.0), r.keeps f.1, (s f).0);
-      names = λ f. claims_named c.width-wide.result c.in_ok-c.c c.saturating_add.result c.saturating_add.ensures (claims_room p₁ d d' c.in_ok-i.i c.in_ok-c.c c.width-wide.result (c.width-wide.ensures (q.keeps f.0)) (g.met.C.Controller.lawful c.args.self.now.child f.1) (l f) (r.names f.1)) (s f).1;
+      names = λ f. claims_named c.width-wide.result c.in_ok-c.c c.saturating_add.result c.saturating_add.ensures (omega (arith, claims_room p₁ d d' c.in_ok-i.i c.in_ok-c.c c.width-wide.result (c.width-wide.ensures (q.keeps f.0)) (g.met.C.Controller.lawful c.args.self.now.child f.1) (l f) (r.names f.1))) (s f).1;
     }

@@ -2,8 +2,6 @@ use Rattle.std.proofs.Common.{◌≡◌, ℕ, zero, suc, ◌+◌, ◌<◌, List,
 use Rattle.std.specs.Array.{IsFromFnResultFrom}
 use Rattle.std.specs.Fn.{Called}
 use denote.Param.Members.{Mut}
-use Rattle.std.proofs.lemmas.List.{get_or-map}
-use Rattle.table.specs.declared.one_to.OneTo.{OneTo}
 use Rattle.plic.specs.Offers.{given_level, level_of}
 use Rattle.plic.proofs.chip.ByPriority.controller.Goals as goal
 
@@ -24,9 +22,6 @@ pub returns-clause-levels : goal.returns-clause-levels
 returns-clause-levels c = λ i h.
     let r = c.from_fn-levels.ensures.items in
     let n = r.long in
-    let first = r.each.1 in
-    let number = λ (p : OneTo 7). p.number in
     let z : 0 + i ≡ i = zero-add i in
     ap (λ o. level_of o i) c.new-2.ensures.order
-    ∙ get_or-map number c.from_fn-levels.result i first 0 (omega arith)
-    ∙ rw z at (made_at number (given_level c.args.priorities.now) c.from_fn-levels.result (λ x y q k. search (rules, tests)) 0 64 _ refl r.each i first (omega arith))
+    ∙ rw z at (made_at (λ x. x) (given_level c.args.priorities.now) c.from_fn-levels.result (λ x y q k. search (rules, tests)) 0 64 _ refl r.each i 0 (omega arith))
